@@ -1,0 +1,12 @@
+use Rattle.std.proofs.Common.{◌∙◌, ap, arith, length}
+use Rattle.kmem_text.proofs.Places.{length-in_order, lines_among}
+use Rattle.kmem_text.proofs.script.read_script.Goals as goal
+
+pub placed_lines-requires-clause-few : goal.placed_lines-requires-clause-few
+placed_lines-requires-clause-few c = omega (arith, ap length (c.deref-3.ensures.value ∙ c.in_ok-names.ensures.names), length-in_order c.deref.result.now, ap length c.deref.ensures.value, c.in-Ok.ensures.few)
+
+pub placed_lines-requires-clause-there : goal.placed_lines-requires-clause-there
+placed_lines-requires-clause-there c = rw (c.deref-2.ensures.value, c.deref-3.ensures.value, c.in_ok-names.ensures.names, c.deref.ensures.value) (lines_among c.in-Ok.spelled.items)
+
+pub returns-clause-few : goal.returns-clause-few
+returns-clause-few c = omega (arith, ap length c.in_ok-names.ensures.names, length-in_order c.deref.result.now, ap length c.deref.ensures.value, c.in-Ok.ensures.few)

@@ -1,0 +1,5 @@
+pub mod Padded
+pub mod Texts
+pub mod Numbers
+pub mod Grammar
+pub mod Replies

@@ -1,0 +1,20 @@
+//! Texts: names, values, commands and replies, and how a script and a reply are spelled.
+#![tactic(auto)]
+
+mod command;
+mod lines;
+mod number;
+mod reply;
+mod script;
+mod spelling;
+mod text;
+
+pub use command::{Command, Line, NameId, Reply, Script, Tag};
+pub use number::number_within;
+pub use reply::write_reply;
+pub use script::{ScriptError, read_script};
+pub use spelling::LineFault;
+pub use text::{Name, Value};
+
+#[cfg(test)]
+mod tests;

@@ -1,0 +1,129 @@
+//! Scripts: an input read into names and lines.
+
+ghost use Rattle.std.specs.Prelude.{◌≡◌, ◌<◌, ◌≤◌, ◌^◌, List, ℕ, length, map, All, Some, None, IsNone, IfOk, IsErrOf, ◌==◌};
+ghost use Rattle.std.specs.List.{slice_split, flat_map, AllByRecursion};
+ghost use Rattle.std.specs.List.Sorted.{IsStrictlySortedBy};
+ghost use Rattle.std.specs.Cmp.Lexicographic.{slice_cmp};
+ghost use Rattle.std.specs.Ordering.{nat_cmp};
+ghost use Rattle.kmem_text.specs.Grammar.{Plain, script_of, lines_of, in_order, place_of, placed, named, IsAmongNames, IsWithinNames};
+
+use super::lines::spelled_lines;
+use super::spelling::{Spelled, SpelledLine};
+use super::{Command, Line, Name, NameId, Script};
+use std::alloc::{AllocError, AllocFailed, Global};
+use std::collections::BTreeSet;
+
+/// Why an input is no script.
+#[derive(Clone, Copy, Debug, PartialEq, Eq)]
+pub enum ScriptError {
+    /// Some line is outside the grammar.
+    Bad,
+    NoMemory,
+}
+
+impl From<AllocError> for ScriptError {
+    ghost use Rattle.kmem_text.specs.declared.script.ScriptError.TheVariants.{NoMemory};
+
+    ghost from_gives = { λ _ e. e ≡ NoMemory };
+
+    fn from(_e: AllocError) -> ScriptError {
+        ScriptError::NoMemory
+    }
+}
+
+impl<T: Drop> From<AllocFailed<T>> for ScriptError {
+    ghost use Rattle.kmem_text.specs.declared.script.ScriptError.TheVariants.{NoMemory};
+
+    ghost from_gives = { λ _ e. e ≡ NoMemory };
+
+    fn from(_e: AllocFailed<T>) -> ScriptError {
+        ScriptError::NoMemory
+    }
+}
+
+/// The script that an input spells, for workers 1 to `workers`. n log n in its length.
+pub fn read_script(alloc: Global, bytes: &[u8], workers: u32) -> Result<Script, ScriptError>
+    requires workers { workers ≤ 16 }
+    requires size { length bytes.now ≤ 16777216 }
+    ensures script { IfOk result (λ script. script_of workers bytes.now ≡ Some (record { names = script.names.items; lines = script.lines.items })) }
+    ensures bad { IsErrOf result ScriptError.Bad → IsNone (script_of workers bytes.now) }
+    ensures few { IfOk result (λ script. length script.names.items < 2 ^ 32) }
+    ensures places { IfOk result (λ script. All (λ line. IsWithinNames (length script.names.items) line.command) script.lines.items) }
+{
+    let spelled = match spelled_lines(alloc, bytes, workers) {
+        Ok(spelled) => spelled,
+        Err(error) => return Err(error),
+    };
+    let names = names_of(alloc, &spelled)?;
+    let lines = placed_lines(alloc, &spelled, &names)?;
+    Ok(Script { names, lines })
+}
+
+/// The names of these lines, in the order of their bytes, each once.
+fn names_of(alloc: Global, lines: &[SpelledLine]) -> Result<Vec<Name>, AllocError>
+    ensures names { IfOk result (λ names. names.items ≡ in_order (flat_map (λ line. named line.command) lines.now)) }
+    ensures sorted { IfOk result (λ names. IsStrictlySortedBy (slice_cmp nat_cmp) names.items) }
+{
+    let mut names = BTreeSet::new(alloc);
+    for line in lines {
+        match line.command {
+            Spelled::Put(name, _) | Spelled::Get(name) | Spelled::Del(name) => {
+                names.insert(name)?;
+            }
+            Spelled::Count => {}
+        }
+    }
+    names.into_iter().collect(alloc)
+}
+
+/// The lines, with each name as its place.
+fn placed_lines(
+    alloc: Global,
+    lines: &[SpelledLine],
+    names: &[Name],
+) -> Result<Vec<Line>, AllocError>
+    requires sorted { IsStrictlySortedBy (slice_cmp nat_cmp) names.now }
+    requires few { length names.now < 2 ^ 32 }
+    requires there { All (λ line. AllByRecursion (IsAmongNames names.now) (named line.command)) lines.now }
+    ensures within { IfOk result (λ placed_lines. All (λ line. IsWithinNames (length names.now) line.command) placed_lines.items) }
+    ensures lines { IfOk result (λ placed_lines. placed_lines.items ≡ map (λ line. record { worker = line.worker; command = placed names.now line.command }) lines.now) }
+{
+    let mut placed_lines = Vec::with_capacity(alloc, lines.len())?;
+    for line in lines {
+        let command = placed(&line.command, names);
+        placed_lines.push(Line {
+            worker: line.worker,
+            command,
+        })?;
+    }
+    Ok(placed_lines)
+}
+
+fn placed(command: &Spelled, names: &[Name]) -> Command
+    requires sorted { IsStrictlySortedBy (slice_cmp nat_cmp) names.now }
+    requires few { length names.now < 2 ^ 32 }
+    requires there { AllByRecursion (IsAmongNames names.now) (named command.now) }
+    ensures command { result ≡ placed names.now command.now }
+    ensures within { IsWithinNames (length names.now) result }
+{
+    match command {
+        Spelled::Put(name, value) => Command::Put(place_of(names, name), *value),
+        Spelled::Get(name) => Command::Get(place_of(names, name)),
+        Spelled::Del(name) => Command::Del(place_of(names, name)),
+        Spelled::Count => Command::Count,
+    }
+}
+
+/// The place of a name that is there. By binary search.
+fn place_of(names: &[Name], name: &Name) -> NameId
+    requires sorted { IsStrictlySortedBy (slice_cmp nat_cmp) names.now }
+    requires few { length names.now < 2 ^ 32 }
+    requires there { IsAmongNames names.now name.now }
+    ensures place { result ≡ place_of names.now name.now }
+    ensures within { result.0 < length names.now }
+{
+    match names.binary_search(name) {
+        Ok(place) => NameId(place as u32),
+        Err(_) => unreachable!(),
+    }
+}
