@@ -1,0 +1,4 @@
+pub mod Words
+pub mod RecordMap
+pub mod History
+pub mod One
