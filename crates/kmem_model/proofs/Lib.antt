@@ -1,1 +1,13 @@
 pub mod Legal
+pub mod CacheLists
+pub mod CacheSearch
+pub mod CacheRanks
+pub mod PlacesShelf
+pub mod PlacesKept
+pub mod PlacesEvents
+pub mod PlacesOutline
+pub mod PlacesShown
+pub mod CacheChoices
+pub mod PlacesSound
+pub mod CacheKept
+pub mod CacheNext

@@ -2,3 +2,13 @@ pub mod Words
 pub mod RecordMap
 pub mod History
 pub mod One
+pub mod CacheState
+pub mod CacheOrder
+pub mod CacheEnter
+pub mod CacheHistory
+pub mod CacheRows
+pub mod CacheScans
+pub mod Places
+pub mod PlacesEvent
+pub mod PlacesLaw
+pub mod PlacesRows
