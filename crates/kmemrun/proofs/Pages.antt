@@ -1,0 +1,43 @@
+-- Replies put into a page, one behind the other.
+use Rattle.std.proofs.Common.{◌≡◌, ℕ, ◌+◌, ◌-◌, ◌≤◌, ◌<◌, List, [], ◌∷◌, ◌++◌, length, take, drop, refl, sym, ap, ◌∙◌, subst, arith, append_assoc, length-append, length-take-le, set, get_or, Option}
+use Rattle.std.proofs.lemmas.List.{take-take, take_at, take_more_set, drop_more}
+use Rattle.kmem_io.specs.Streams.{AppendsFront, Appends-then, AppendsFront-behind}
+use Rattle.kmem_text.specs.declared.command.Line.{Line}
+use Rattle.kmem_text.specs.Replies.{reply_text}
+use Rattle.kmem_model.specs.RecordMap.{RecordMap}
+use Rattle.kmem_model.specs.One.{step_within, replies, reply_lines}
+use Rattle.kmemrun.specs.Pages.{MovesOut}
+
+regroup : (a b c d e : List ℕ) → (a ++ b) ++ ((c ++ d) ++ e) ≡ a ++ ((b ++ c) ++ (d ++ e))
+regroup a b c d e = append_assoc a b ((c ++ d) ++ e) ∙ ap (λ xs. a ++ xs) (ap (λ xs. b ++ xs) (append_assoc c d e) ∙ sym (append_assoc b c (d ++ e)))
+
+-- a text of n bytes at the front of what is put at a place
+pub text_at : (page put text rest : List ℕ) (at n k : ℕ) → take (at + k) put ≡ take at page ++ (text ++ rest) → at ≤ length page → n ≡ length text → n ≤ k → take (at + n) put ≡ take at page ++ text
+text_at page put text rest at n k whole small size fits =
+    let start : length (take at page ++ text) ≡ at + n = length-append (take at page) text ∙ omega (arith, length-take-le at page small, size) in
+    sym (take-take (at + n) (at + k) put (omega arith)) ∙ ap (take (at + n)) (whole ∙ sym (append_assoc (take at page) text rest)) ∙ take_at (take at page ++ text) rest (at + n) start
+
+-- and a byte behind it
+pub line_at : (page put text rest : List ℕ) (at n k : ℕ) (byte : ℕ) → take (at + k) put ≡ take at page ++ (text ++ rest) → at ≤ length page → n ≡ length text → n ≤ k → at + n < length put → take (at + n + 1) (set put (at + n) byte) ≡ take at page ++ (text ++ byte ∷ [])
+line_at page put text rest at n k byte whole small size fits room =
+    take_more_set put (at + n) byte room ∙ ap (λ xs. xs ++ byte ∷ []) (text_at page put text rest at n k whole small size fits) ∙ append_assoc (take at page) text (byte ∷ [])
+
+-- one reply more stands in the page
+pub one_more : (a b c : Option (List ℕ)) (all page kept page' line rest rest' : List ℕ) → MovesOut a b all (page ++ rest) → MovesOut b c page kept → page' ≡ kept ++ line → rest ≡ line ++ rest' → MovesOut a c all (page' ++ rest')
+one_more a b c all page kept page' line rest rest' p q put next = (
+  p.0 ++ q.0,
+  Appends-then a b c p.0 q.0 p.1 q.1,
+  ap (λ xs. (p.0 ++ q.0) ++ (xs ++ rest')) put ∙ regroup p.0 q.0 kept line rest' ∙ ap (λ xs. p.0 ++ (xs ++ (line ++ rest'))) q.2 ∙ ap (λ xs. p.0 ++ (page ++ xs)) (sym next) ∙ p.2,
+)
+
+-- what was kept is written too
+pub last_moved : (a b c : Option (List ℕ)) (all page rest : List ℕ) → MovesOut a b all (page ++ rest) → AppendsFront b c page → AppendsFront a c all
+last_moved a b c all page rest p q = AppendsFront-behind a b c p.0 page rest all p.1 p.2 q
+
+-- the replies to the lines from a place on begin with the reply to the line there
+pub next_reply : (capacity : ℕ) (map : RecordMap) (lines : List Line) (i : ℕ) (line : Line) → i < length lines → line ≡ get_or lines i line → reply_lines (replies capacity map (drop i lines)) ≡ (reply_text (step_within capacity map line.command).reply ++ 10 ∷ []) ++ reply_lines (replies capacity (step_within capacity map line.command).map (drop (i + 1) lines))
+next_reply capacity map lines i line small is = ap (λ ls. reply_lines (replies capacity map ls)) (drop_more lines i line small ∙ ap (λ (l : Line). l ∷ drop (i + 1) lines) (sym is))
+
+-- a text that n bytes hold is no longer
+pub no_longer : (put text rest : List ℕ) (n : ℕ) → put ≡ text ++ rest → length put ≡ n → length text ≤ n
+no_longer put text rest n is size = omega (arith, ap length is, length-append text rest, size)

@@ -1,0 +1,172 @@
+//! `one`: all lines in the order of the file, on one thread.
+
+ghost use Rattle.std.specs.Prelude.{◌≡◌, ◌≢◌, ◌+◌, ◌*◌, ◌<◌, ◌≤◌, ◌↔◌, ◌^◌, ◌++◌, ◌∷◌, [], All, length, take, Some, None, MatchResult, IfOk, OnOk, IfErr, IsOkAnd, IsErrOf, IfSome};
+ghost use Rattle.std.specs.Io.KnownBytes.{Appends, Keeps, Consumes, IsAtEnd};
+ghost use Rattle.kmem_io.specs.Streams.{CanRise, CountsFaults, AppendsFront};
+ghost use Rattle.kmem_text.specs.Grammar.{script_of, IsWithinNames};
+ghost use Rattle.kmem_text.specs.Replies.{reply_text};
+ghost use Rattle.kmem_model.specs.One.{step_within, replies, reply_lines, empty_map};
+ghost use Rattle.kmemrun.specs.Answers.{one_answer};
+ghost use Rattle.kmemrun.specs.Pages.{MovesOut};
+
+use crate::fault::Fault;
+use kmem_io::{Failed, ReadAllError, Sink, Source, read_all, write_all};
+use kmem_text::{Command, Reply, Script, ScriptError, read_script, write_reply};
+use record_heap::PlainHeap;
+use std::alloc::Global;
+
+/// The most bytes that an input may have: 16 MiB.
+const MAX_INPUT: usize = 16_777_216;
+
+/// The room for replies between two writes.
+const PAGE: usize = 65_536;
+
+/// The most room that one reply and its line feed take.
+const REPLY_ROOM: usize = 641;
+
+/// Reads a script to its end, and appends the reply to each of its commands and a line feed. Nothing is written before
+/// all memory is taken. `every` is for moves, which aren't there yet.
+pub fn serve_one<R: Source, W: Sink>(
+    alloc: Global,
+    slabs: u32,
+    chunks: u32,
+    every: Option<u32>,
+    input: &mut R,
+    out: &mut W,
+) -> Result<(), Fault>
+    requires slabs { slabs ≤ 4096 }
+    requires chunks { chunks ≤ 64 }
+    requires buffers { slabs * chunks ≤ 65536 }
+    requires every { every ≡ None }
+    requires input { CanRise (R.faults input.old) }
+    requires out { CanRise (W.faults out.old) }
+
+    // What is written for the bytes that were left, all of which are read.
+    ensures text { OnOk result (IfSome (R.left input.old) (λ bytes.
+        IsOkAnd (one_answer slabs chunks bytes) (λ text. Appends (W.written out.old) (W.written out.new) text))) }
+    ensures end { OnOk result (IsAtEnd (R.left input.new)) }
+
+    // When each fault comes.
+    ensures read { IsErrOf result Fault.Read ↔ (R.faults input.old < R.faults input.new) }
+    ensures limit { IsErrOf result Fault.Limit → IfSome (R.left input.old) (λ bytes. IsErrOf (one_answer slabs chunks bytes) Fault.Limit) }
+    ensures bad_script { IsErrOf result Fault.BadScript → IfSome (R.left input.old) (λ bytes. IsErrOf (one_answer slabs chunks bytes) Fault.BadScript) }
+    ensures write { IsErrOf result Fault.Write ↔ (W.faults out.old < W.faults out.new) }
+
+    // What a fault leaves.
+    ensures front { IsErrOf result Fault.Write → IfSome (R.left input.old) (λ bytes.
+        IsOkAnd (one_answer slabs chunks bytes) (λ text. AppendsFront (W.written out.old) (W.written out.new) text)) }
+    ensures untouched { IfErr result (λ fault. fault ≢ Fault.Write → Keeps (W.written out.old) (W.written out.new)) }
+{
+    let _ = every;
+    let bytes = match read_all(alloc, input, MAX_INPUT) {
+        Ok(bytes) => bytes,
+        Err(ReadAllError::Read) => return Err(Fault::Read),
+        Err(ReadAllError::TooLong) => return Err(Fault::Limit),
+        Err(ReadAllError::NoMemory) => return Err(Fault::NoMemory),
+    };
+    let mut ready = match open_one(alloc, slabs * chunks, &bytes) {
+        Ok(ready) => ready,
+        Err(ScriptError::Bad) => return Err(Fault::BadScript),
+        Err(ScriptError::NoMemory) => return Err(Fault::NoMemory),
+    };
+    match answer_lines(&ready.script, &mut ready.heap, &mut ready.page, out) {
+        Ok(()) => Ok(()),
+        Err(Failed) => Err(Fault::Write),
+    }
+}
+
+/// A script with all that its run needs.
+#[derive(Drop)]
+pub struct OpenOne {
+    script: Script,
+    heap: PlainHeap,
+    page: Vec<u8>,
+}
+
+/// Takes all memory of a run.
+fn open_one(alloc: Global, buffers: u32, bytes: &[u8]) -> Result<OpenOne, ScriptError>
+    requires { length bytes.now ≤ 16777216 }
+    ensures script { IfOk result (λ ready. script_of 16 bytes.now ≡ Some (record { names = ready.script.names.items; lines = ready.script.lines.items })) }
+    ensures heap { IfOk result (λ ready. ready.heap ≡ record { capacity = buffers; map = empty_map (length ready.script.names.items) }) }
+    ensures within { IfOk result (λ ready. All (λ line. IsWithinNames (length ready.script.names.items) line.command) ready.script.lines.items) }
+    ensures page { IfOk result (λ ready. length ready.page.items ≡ 65536) }
+    ensures bad { IsErrOf result ScriptError.Bad → script_of 16 bytes.now ≡ None }
+{
+    let script = match read_script(alloc, bytes, 16) {
+        Ok(script) => script,
+        Err(error) => return Err(error),
+    };
+    let Ok(heap) = PlainHeap::create(alloc, script.names.len() as u32, buffers) else {
+        return Err(ScriptError::NoMemory);
+    };
+    let Ok(page) = vec![in alloc; 0u8; PAGE] else {
+        return Err(ScriptError::NoMemory);
+    };
+    Ok(OpenOne { script, heap, page })
+}
+
+/// Carries out the lines, and writes the replies as the page fills.
+fn answer_lines<W: Sink>(
+    script: &Script,
+    heap: &mut PlainHeap,
+    page: &mut [u8],
+    out: &mut W,
+) -> Result<(), Failed>
+    requires names { length heap.old.map ≡ length script.now.names.items }
+    requires within { All (λ line. IsWithinNames (length script.now.names.items) line.command) script.now.lines.items }
+    requires page { 641 ≤ length page.old }
+    requires out { CanRise (W.faults out.old) }
+    ensures whole { OnOk result (Appends (W.written out.old) (W.written out.new) (reply_lines (replies heap.old.capacity heap.old.map script.now.lines.items))) }
+    ensures front { AppendsFront (W.written out.old) (W.written out.new) (reply_lines (replies heap.old.capacity heap.old.map script.now.lines.items)) }
+    ensures counted { CountsFaults (W.faults out.old) (W.faults out.new) result }
+{
+    let mut at = 0;
+    for line in &script.lines {
+        at = make_room(page, at, out)?;
+        let reply = run_command(heap, &line.command);
+        at = put_line(script, &reply, page, at);
+    }
+    write_all(out, &page[..at])
+}
+
+/// Writes what stands in the page where there is no room behind it for one more reply, and answers where the next goes.
+fn make_room<W: Sink>(page: &[u8], at: usize, out: &mut W) -> Result<usize, Failed>
+    requires at { at ≤ length page.now }
+    requires page { 641 ≤ length page.now }
+    requires out { CanRise (W.faults out.old) }
+    ensures room { IfOk result (λ kept. kept + 641 ≤ length page.now) }
+    ensures moved { IfOk result (λ kept. MovesOut (W.written out.old) (W.written out.new) (take at page.now) (take kept page.now)) }
+    ensures front { AppendsFront (W.written out.old) (W.written out.new) (take at page.now) }
+    ensures counted { CountsFaults (W.faults out.old) (W.faults out.new) result }
+{
+    if page.len() - at >= REPLY_ROOM {
+        return Ok(at);
+    }
+    write_all(out, &page[..at])?;
+    Ok(0)
+}
+
+/// Puts a reply and a line feed into the page, and answers where they end.
+fn put_line(script: &Script, reply: &Reply, page: &mut [u8], at: usize) -> usize
+    requires { at + 641 ≤ length page.old }
+    ensures end { result ≤ length page.new }
+    ensures text { take result page.new ≡ take at page.old ++ (reply_text reply.now ++ 10 ∷ []) }
+{
+    let len = write_reply(script, reply, &mut page[at..at + 640]);
+    page[at + len] = b'\n';
+    at + len + 1
+}
+
+fn run_command(heap: &mut PlainHeap, command: &Command) -> Reply
+    requires { IsWithinNames (length heap.old.map) command.now }
+    ensures reply { result ≡ (step_within heap.old.capacity heap.old.map command.now).reply }
+    ensures after { heap.new ≡ record { capacity = heap.old.capacity; map = (step_within heap.old.capacity heap.old.map command.now).map } }
+    ensures names { length heap.new.map ≡ length heap.old.map }
+{
+    match command {
+        Command::Put(name, value) => heap.put(*name, *value),
+        Command::Get(name) => heap.get(*name),
+        Command::Del(name) => heap.del(*name),
+        Command::Count => heap.count(),
+    }
+}

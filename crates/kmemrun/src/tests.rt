@@ -1,0 +1,176 @@
+use crate::Open;
+use crate::status::Status;
+use crate::top::top;
+use kmem_io::{MemSink, MemSource};
+use std::alloc::Global;
+use std::sync::Wait;
+use std::test::Fail;
+use std::thread::Threads;
+
+/// What a run over streams in memory ended with and wrote.
+#[derive(Drop)]
+struct Shown {
+    status: Status,
+    out: MemSink,
+    err: MemSink,
+}
+
+/// A run whose streams take and give what they are asked.
+fn run_in_memory<T: Wait + Threads + Sync>(
+    rt: &T,
+    alloc: Global,
+    words: &[&str],
+    input: &[u8],
+) -> Result<Shown, Fail> {
+    let mut source = MemSource::create(alloc, input, 4096, &[])?;
+    let mut out = MemSink::create(alloc, 4096, 4096, &[])?;
+    let mut err = MemSink::create(alloc, 4096, 4096, &[])?;
+    let ended = top(rt, alloc, words, &mut source, &mut out, &mut err, &Open);
+    Ok(Shown {
+        status: ended.status,
+        out,
+        err,
+    })
+}
+
+/// Words, an input, and what `one` writes.
+#[test]
+fn worked_rows(rt: HostRuntime) -> Result<(), Fail> {
+    let first = (
+        ["one", "2", "2"],
+        b"1 put a x\n1 get a\n".as_slice(),
+        b"new\nval x\n".as_slice(),
+    );
+    let empty = (["one", "2", "2"], b"".as_slice(), b"".as_slice());
+    let full = (
+        ["one", "1", "2"],
+        b"1 put a x\n1 put b y\n1 put c z\n1 del a\n1 put c z\n1 count\n".as_slice(),
+        b"new\nnew\nfull\ndel x\nnew\nn 2\n".as_slice(),
+    );
+    let replaces = (
+        ["one", "1", "1"],
+        b"1 put a x\n1 put a y\n1 get a\n".as_slice(),
+        b"new\nwas x\nval y\n".as_slice(),
+    );
+    for (words, input, output) in [first, empty, full, replaces] {
+        let ran = run_in_memory(&rt, rt.alloc(), words.as_slice(), input)?;
+        assert_eq!(rt; ran.status, Status::Fine);
+        assert_eq!(rt; ran.out.bytes(), output);
+        assert!(rt; ran.err.bytes().is_empty());
+    }
+    Ok(())
+}
+
+#[test]
+fn usage(rt: HostRuntime) -> Result<(), Fail> {
+    let two: [&str; 2] = ["one", "2"];
+    let four = ["one", "2", "2", "-1"];
+    let lists = [
+        ["one", "0", "2"].as_slice(),
+        two.as_slice(),
+        ["one", "02", "2"].as_slice(),
+        ["one", "4096", "64"].as_slice(),
+        ["two", "2", "2"].as_slice(),
+        four.as_slice(),
+        [].as_slice(),
+    ];
+    for words in lists {
+        let ran = run_in_memory(&rt, rt.alloc(), words, b"1 put a x\n")?;
+        assert_eq!(rt; ran.status, Status::Usage);
+        assert_eq!(rt; ran.err.bytes(), b"kmemrun: usage\n".as_slice());
+        assert!(rt; ran.out.bytes().is_empty());
+    }
+    Ok(())
+}
+
+/// The first run with a sink that takes 4 bytes a call and fails at its third, and with a source that fails at once.
+#[test]
+fn failing_sink_and_source(rt: HostRuntime) -> Result<(), Fail> {
+    let alloc = rt.alloc();
+    let script = b"1 put a x\n1 get a\n".as_slice();
+    let words = ["one", "2", "2"];
+    let cases = [
+        (
+            [9].as_slice(),
+            [3].as_slice(),
+            Status::WriteFault,
+            b"new\nval ".as_slice(),
+            b"kmemrun: write fault\n".as_slice(),
+        ),
+        (
+            [1].as_slice(),
+            [9].as_slice(),
+            Status::ReadFault,
+            b"".as_slice(),
+            b"kmemrun: read fault\n".as_slice(),
+        ),
+    ];
+    for (reads, writes, status, text, told) in cases {
+        let mut source = MemSource::create(alloc, script, 4, reads)?;
+        let mut out = MemSink::create(alloc, 64, 4, writes)?;
+        let mut err = MemSink::create(alloc, 64, 4, &[])?;
+        let ended = top(
+            &rt,
+            alloc,
+            words.as_slice(),
+            &mut source,
+            &mut out,
+            &mut err,
+            &Open,
+        );
+        assert_eq!(rt; ended.status, status);
+        assert_eq!(rt; out.bytes(), text);
+        assert_eq!(rt; err.bytes(), told);
+    }
+
+    // A line that can't be written leaves the status.
+    let mut source = MemSource::create(alloc, script, 4, &[])?;
+    let mut out = MemSink::create(alloc, 64, 4, &[])?;
+    let mut err = MemSink::create(alloc, 64, 4, &[2])?;
+    let ended = top(&rt, alloc, &["one"], &mut source, &mut out, &mut err, &Open);
+    assert_eq!(rt; ended.status, Status::Usage);
+    assert_eq!(rt; err.bytes(), b"kmem".as_slice());
+    Ok(())
+}
+
+/// Each kind of bad line, and a good neighbour of it.
+#[test]
+fn bad_lines(rt: HostRuntime) -> Result<(), Fail> {
+    let long_name = b"1 get aaaaaaaaaabbbbbbbbbbccccccccccddd\n".as_slice();
+    let longest_name = b"1 get aaaaaaaaaabbbbbbbbbbccccccccccdd\n".as_slice();
+    let long_value =
+        b"1 put a aaaaaaaaaabbbbbbbbbbccccccccccddddddddddeeeeeeeeeeffffffffffggggg\n".as_slice();
+    let longest_value =
+        b"1 put a aaaaaaaaaabbbbbbbbbbccccccccccddddddddddeeeeeeeeeeffffffffffgggg\n".as_slice();
+    let cases = [
+        (b"0 get a\n".as_slice(), b"1 get a\n".as_slice()),
+        (b"17 get a\n".as_slice(), b"16 get a\n".as_slice()),
+        (b"01 get a\n".as_slice(), b"10 get a\n".as_slice()),
+        (b"get a\n".as_slice(), b"2 get a\n".as_slice()),
+        (b"1 got a\n".as_slice(), b"1 get a\n".as_slice()),
+        (b"1 link a b\n".as_slice(), b"1 put a b\n".as_slice()),
+        (b"1 put a\n".as_slice(), b"1 put a x\n".as_slice()),
+        (b"1 count a\n".as_slice(), b"1 count\n".as_slice()),
+        (b"1 get A\n".as_slice(), b"1 get a\n".as_slice()),
+        (b"1 get a\x7F\n".as_slice(), b"1 get a-_.9\n".as_slice()),
+        (b"1 put a \x1F\n".as_slice(), b"1 put a !~\n".as_slice()),
+        (b"1 put a  x\n".as_slice(), b"1 put a x\n".as_slice()),
+        (b" 1 get a\n".as_slice(), b"1 get a\n".as_slice()),
+        (b"1 get a \n".as_slice(), b"1 get a\n".as_slice()),
+        (b"1\tget a\n".as_slice(), b"1 get a\n".as_slice()),
+        (b"1 get a\r\n".as_slice(), b"1 get a\n".as_slice()),
+        (b"\n1 get a\n".as_slice(), b"1 get a\n1 get b\n".as_slice()),
+        (b"1 get a".as_slice(), b"1 get a\n".as_slice()),
+        (long_name, longest_name),
+        (long_value, longest_value),
+    ];
+    for (bad, good) in cases {
+        let refused = run_in_memory(&rt, rt.alloc(), &["one", "2", "2"], bad)?;
+        assert_eq!(rt; refused.status, Status::BadScript, "at {bad:?}");
+        assert!(rt; refused.out.bytes().is_empty());
+        assert_eq!(rt; refused.err.bytes(), b"kmemrun: bad script\n".as_slice());
+        let taken = run_in_memory(&rt, rt.alloc(), &["one", "2", "2"], good)?;
+        assert_eq!(rt; taken.status, Status::Fine, "at {good:?}");
+    }
+    Ok(())
+}
