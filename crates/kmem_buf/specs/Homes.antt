@@ -1,0 +1,13 @@
+-- Which buffers belong to which cells (this project's own).
+use Rattle.std.specs.Prelude.{◌≡◌, List, Some, slice_get}
+use Rattle.atomic_table.specs.Seated.{TableId}
+use Rattle.kmem_buf.specs.Buffers.{BufState}
+
+-- the homes of a cache's cells, by number, and of the stubs of its moves, by place
+pub record Homes : Type 0 where
+  pub cells : List TableId
+  pub moves : List TableId
+
+-- the buffer is of these cells: its home is the one that stands at its number
+abbrev pub IsOf : {X : Type 0} → List TableId → BufState X → Type 0
+IsOf cells b = slice_get cells b.number ≡ Some b.home

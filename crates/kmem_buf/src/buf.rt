@@ -1,0 +1,190 @@
+//! Owned buffers, and the cells that they come from.
+ghost use Rattle.std.specs.Prelude.{◌≡◌, true, false, IsTrue, ◌↔◌, IfOk};
+ghost use Rattle.std.specs.Borrow.{Lends, sem};
+ghost use Rattle.kmem_buf.specs.Buffers.{facts_at};
+ghost use Rattle.kmem_buf.specs.Homes.{IsOf};
+
+use crate::kind::Kind;
+use crate::stub::{Slip, Stub};
+use std::alloc::{AllocError, Global};
+use std::marker::Model;
+
+/// A buffer that its cell gave out, with its object. No copy can be made. One that is dropped stays out for good.
+pub struct Buf<K: Kind> {
+    number: u32,
+    object: K::Object,
+    slip: Slip,
+}
+
+impl<K: Kind> Model for Buf<K> {
+    ghost use Rattle.std.specs.Prelude.{◌≡◌};
+    ghost use Rattle.kmem_buf.specs.Buffers.{BufState, buf_code, facts_at};
+
+    ghost Value = { BufState K.Object };
+
+    ghost coded = { buf_code K.Object.code };
+
+    ghost view = { λ b. record { number = b.number; object = b.object; home = b.slip.home } };
+
+    ghost invariant = { λ b. b.slip.facts ≡ facts_at b.number };
+}
+
+impl<K: Kind> Buf<K> {
+    ghost use Rattle.kmem_buf.specs.contracts.buf.Buf.{the_row};
+
+    pub fn number(&self) -> u32
+        ensures { result ≡ self.now.number }
+    {
+        self.number
+    }
+
+    pub fn object(&self) -> &K::Object
+        ensures { result.now ≡ self.now.object }
+    {
+        &self.object
+    }
+
+    /// The object, to be changed in place.
+    pub fn object_mut(&mut self) -> &mut K::Object
+        ensures* writes_back { sem 𝓛 (Lends (the_row K.row K.Object.row K.Kind) K.Object.row self.entry result (λ object. record { number = self.old.number; object = object; home = self.old.home })) }
+        ensures value { result.now ≡ self.old.object }
+    {
+        &mut self.object
+    }
+
+    /// Two buffers of one cell: there is no such pair, so a caller never comes to the point after this call.
+    pub fn clash(self, other: Buf<K>)
+        requires { self.home ≡ other.home }
+        ensures { ⊥ }
+    {
+        let Buf {
+            number: _,
+            object: _,
+            slip,
+        } = self;
+        let Buf {
+            number: _,
+            object: _,
+            slip: other,
+        } = other;
+        slip.clash(other);
+    }
+}
+
+impl<K: Kind> Buf<K> {
+    fn into_parts(self) -> (K::Object, Slip)
+        ensures object { result.0 ≡ self.object }
+        ensures slip { result.1 ≡ record { home = self.home; facts = facts_at self.number } }
+    {
+        let Self {
+            number: _,
+            object,
+            slip,
+        } = self;
+        (object, slip)
+    }
+}
+
+impl<K: Kind> Drop for Buf<K> {
+    fn drop(self) {
+        let Buf {
+            number: _,
+            object: _,
+            slip: _,
+        } = self;
+    }
+}
+
+/// What has the cells of buffers of a kind.
+pub trait Cells<K: Kind> {
+    ghost use Rattle.std.specs.Prelude.{List, Bool, ℕ};
+    ghost use Rattle.atomic_table.specs.Seated.{TableId};
+
+    // The homes of the cells, by number.
+    ghost cells: { Self → List TableId };
+    // Whether the buffer of a number is out.
+    ghost is_out: { Self → ℕ → Bool };
+
+    /// Shows that the buffer is out.
+    fn meet(&mut self, buf: &mut Buf<K>)
+        requires { IsOf (cells self.old) buf.old }
+        ensures out { is_out self.old buf.old.number ≡ true }
+        ensures cells { self.new ≡ self.old }
+        ensures buf { buf.new ≡ buf.old };
+}
+
+/// The record of one buffer. It says whether the buffer is out, and the one buffer that is out came from it.
+#[derive(Drop)]
+pub struct Cell {
+    number: u32,
+    out: bool,
+    stub: Stub,
+}
+
+impl Model for Cell {
+    ghost use Rattle.std.specs.Prelude.{◌≡◌, true};
+    ghost use Rattle.kmem_buf.specs.Buffers.{CellState, facts_at};
+
+    ghost Value = { CellState };
+
+    ghost view = { λ c. record { number = c.number; out = c.out; home = c.stub.home } };
+
+    ghost invariant = { λ c. (c.stub.issued ≡ c.out) × (c.out ≡ true → c.stub.facts ≡ facts_at c.number) };
+}
+
+impl Cell {
+    /// A cell whose buffer is free. All memory that it will ever need is taken here.
+    pub fn create(alloc: Global, number: u32) -> Result<Cell, AllocError>
+        ensures { IfOk result (λ c. (c.number ≡ number) × (c.out ≡ false)) }
+    {
+        Ok(Cell {
+            number,
+            out: false,
+            stub: Stub::create(alloc)?,
+        })
+    }
+
+    /// Whether the buffer is out.
+    pub fn is_out(&self) -> bool
+        ensures { result ≡ self.now.out }
+    {
+        self.out
+    }
+
+    /// Gives the buffer out with this object.
+    pub fn take<K: Kind>(&mut self, object: K::Object) -> Buf<K>
+        requires { self.old.out ≡ false }
+        ensures cell { self.new ≡ record { number = self.old.number; out = true; home = self.old.home } }
+        ensures buf { result ≡ record { number = self.old.number; object = object; home = self.old.home } }
+    {
+        self.out = true;
+        Buf {
+            number: self.number,
+            object,
+            slip: self.stub.issue([u64::from(self.number), 0, 0]),
+        }
+    }
+
+    /// Takes the buffer back, and answers its object. The buffer was out, and is the one of this number.
+    pub fn give<K: Kind>(&mut self, buf: Buf<K>) -> K::Object
+        requires { buf.home ≡ self.old.home }
+        ensures was { self.old ≡ record { number = buf.number; out = true; home = buf.home } }
+        ensures cell { self.new ≡ record { number = self.old.number; out = false; home = self.old.home } }
+        ensures object { result ≡ buf.object }
+    {
+        let (object, slip) = buf.into_parts();
+        self.stub.redeem(slip);
+        self.out = false;
+        object
+    }
+
+    /// Shows that the buffer is out, and is the one of this number.
+    pub fn meet<K: Kind>(&mut self, buf: &mut Buf<K>)
+        requires { buf.old.home ≡ self.old.home }
+        ensures out { self.old ≡ record { number = buf.old.number; out = true; home = buf.old.home } }
+        ensures cell { self.new ≡ self.old }
+        ensures buf { buf.new ≡ buf.old }
+    {
+        self.stub.meet(&mut buf.slip);
+    }
+}
