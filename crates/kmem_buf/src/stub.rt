@@ -8,8 +8,8 @@ use std::alloc::{AllocError, Global};
 use std::marker::{Brand, Model};
 use std::mem::replace;
 
-/// It stands in an object, and while it is issued, its slip is what a holder of that object's part has.
-/// It costs 64 bytes and one word of 8 bytes of its own in the heap.
+/// It stands in an object, and while it is issued, whoever holds its slip knows that the object has kept its facts.
+/// It takes 64 bytes, and a block of 8 bytes in the heap.
 #[derive(Drop)]
 pub struct Stub {
     table: Board,
