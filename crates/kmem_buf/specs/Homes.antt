@@ -1,5 +1,6 @@
 -- Which buffers belong to which cells (this project's own).
-use Rattle.std.specs.Prelude.{◌≡◌, List, Some, map, slice_get}
+use Rattle.std.specs.Prelude.{◌≡◌, Bool, false, ℕ, List, Some, map, slice_get}
+use Rattle.std.specs.Option.{option_map_or}
 use Rattle.atomic_table.specs.Seated.{TableId}
 use Rattle.kmem_buf.specs.Stubs.{StubState}
 use Rattle.kmem_buf.specs.Buffers.{BufState, CellState}
@@ -20,3 +21,7 @@ cell_homes cells = map (λ (c : CellState). c.home) cells
 -- the homes of these stubs
 abbrev pub stub_homes : List StubState → List TableId
 stub_homes stubs = map (λ (s : StubState). s.home) stubs
+
+-- whether the buffer of this number is out, by its cell among these
+abbrev pub out_at : List CellState → ℕ → Bool
+out_at cells number = option_map_or (λ (c : CellState). c.out) (slice_get cells number) false

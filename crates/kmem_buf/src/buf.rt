@@ -1,7 +1,6 @@
 //! Owned buffers, and the cells that they come from.
 ghost use Rattle.std.specs.Prelude.{◌≡◌, true, false, IsTrue, ◌↔◌, IfOk};
 ghost use Rattle.std.specs.Borrow.{Lends, sem};
-ghost use Rattle.kmem_buf.specs.Buffers.{facts_at};
 ghost use Rattle.kmem_buf.specs.Homes.{IsOf};
 
 use crate::kind::Kind;
@@ -10,27 +9,31 @@ use std::alloc::{AllocError, Global};
 use std::marker::Model;
 
 /// A buffer that its cell gave out, with its object. No copy can be made. One that is dropped stays out for good.
-pub struct Buf<K: Kind> {
+#[derive(Drop)]
+pub struct Buffer<X> {
     number: u32,
-    object: K::Object,
+    object: X,
     slip: Slip,
 }
 
-impl<K: Kind> Model for Buf<K> {
+/// A buffer with an object of the kind.
+pub type Buf<K> = Buffer<<K as Kind>::Object>;
+
+impl<X> Model for Buffer<X> {
     ghost use Rattle.std.specs.Prelude.{◌≡◌};
     ghost use Rattle.kmem_buf.specs.Buffers.{BufState, buf_code, facts_at};
 
-    ghost Value = { BufState K.Object };
+    ghost Value = { BufState X };
 
-    ghost coded = { buf_code K.Object.code };
+    ghost coded = { buf_code X.code };
 
     ghost view = { λ b. record { number = b.number; object = b.object; home = b.slip.home } };
 
     ghost invariant = { λ b. b.slip.facts ≡ facts_at b.number };
 }
 
-impl<K: Kind> Buf<K> {
-    ghost use Rattle.kmem_buf.specs.contracts.buf.Buf.{the_row};
+impl<X> Buffer<X> {
+    ghost use Rattle.kmem_buf.specs.contracts.buf.Buffer.{the_row};
 
     pub fn number(&self) -> u32
         ensures { result ≡ self.now.number }
@@ -38,60 +41,38 @@ impl<K: Kind> Buf<K> {
         self.number
     }
 
-    pub fn object(&self) -> &K::Object
+    pub fn object(&self) -> &X
         ensures { result.now ≡ self.now.object }
     {
         &self.object
     }
 
     /// The object, to be changed in place.
-    pub fn object_mut(&mut self) -> &mut K::Object
-        ensures* writes_back { sem 𝓛 (Lends (the_row K.row K.Object.row K.Kind) K.Object.row self.entry result (λ object. record { number = self.old.number; object = object; home = self.old.home })) }
+    pub fn object_mut(&mut self) -> &mut X
+        ensures* writes_back { sem 𝓛 (Lends (the_row X.row) X.row self.entry result (λ object. record { number = self.old.number; object = object; home = self.old.home })) }
         ensures value { result.now ≡ self.old.object }
     {
         &mut self.object
     }
 
     /// Two buffers of one cell: there is no such pair, so a caller never comes to the point after this call.
-    pub fn clash(self, other: Buf<K>)
+    pub fn clash(self, other: Buffer<X>)
+    where
+        X: Drop,
         requires { self.home ≡ other.home }
         ensures { ⊥ }
     {
-        let Buf {
+        let Buffer {
             number: _,
             object: _,
             slip,
         } = self;
-        let Buf {
+        let Buffer {
             number: _,
             object: _,
             slip: other,
         } = other;
         slip.clash(other);
-    }
-}
-
-impl<K: Kind> Buf<K> {
-    fn into_parts(self) -> (K::Object, Slip)
-        ensures object { result.0 ≡ self.object }
-        ensures slip { result.1 ≡ record { home = self.home; facts = facts_at self.number } }
-    {
-        let Self {
-            number: _,
-            object,
-            slip,
-        } = self;
-        (object, slip)
-    }
-}
-
-impl<K: Kind> Drop for Buf<K> {
-    fn drop(self) {
-        let Buf {
-            number: _,
-            object: _,
-            slip: _,
-        } = self;
     }
 }
 
@@ -152,13 +133,13 @@ impl Cell {
     }
 
     /// Gives the buffer out with this object.
-    pub fn take<K: Kind>(&mut self, object: K::Object) -> Buf<K>
+    pub fn take<X>(&mut self, object: X) -> Buffer<X>
         requires { self.old.out ≡ false }
         ensures cell { self.new ≡ record { number = self.old.number; out = true; home = self.old.home } }
         ensures buf { result ≡ record { number = self.old.number; object = object; home = self.old.home } }
     {
         self.out = true;
-        Buf {
+        Buffer {
             number: self.number,
             object,
             slip: self.stub.issue([u64::from(self.number), 0, 0]),
@@ -166,20 +147,24 @@ impl Cell {
     }
 
     /// Takes the buffer back, and answers its object. The buffer was out, and is the one of this number.
-    pub fn give<K: Kind>(&mut self, buf: Buf<K>) -> K::Object
+    pub fn give<X>(&mut self, buf: Buffer<X>) -> X
         requires { buf.home ≡ self.old.home }
         ensures was { self.old ≡ record { number = buf.number; out = true; home = buf.home } }
         ensures cell { self.new ≡ record { number = self.old.number; out = false; home = self.old.home } }
         ensures object { result ≡ buf.object }
     {
-        let (object, slip) = buf.into_parts();
+        let Buffer {
+            number: _,
+            object,
+            slip,
+        } = buf;
         self.stub.redeem(slip);
         self.out = false;
         object
     }
 
     /// Shows that the buffer is out, and is the one of this number.
-    pub fn meet<K: Kind>(&mut self, buf: &mut Buf<K>)
+    pub fn meet<X>(&mut self, buf: &mut Buffer<X>)
         requires { buf.old.home ≡ self.old.home }
         ensures out { self.old ≡ record { number = buf.old.number; out = true; home = buf.old.home } }
         ensures cell { self.new ≡ self.old }

@@ -9,6 +9,7 @@ use crate::kind::Kind;
 use std::sync::Wait;
 
 /// A client's answer to the question whether the object of one buffer could move to another, with the buffers that it hands back.
+#[derive(Drop)]
 pub enum Answer<K: Kind> {
     /// The object has moved. The old buffer comes back.
     Yes(Buf<K>),

@@ -12,7 +12,7 @@ mod stub;
 mod tests;
 mod twice;
 
-pub use buf::{Buf, Cell, Cells};
+pub use buf::{Buf, Buffer, Cell, Cells};
 pub use client::{Answer, MoveClient, Verdict};
 pub use home::{FullNote, Home};
 pub use kind::Kind;

@@ -1,6 +1,8 @@
 //! The whole use of a stub: a shelf that lends its item's number and knows, of each ticket that comes, that the item still stands.
 ghost use Rattle.std.specs.Prelude.{◌≡◌, false, IfSome};
 
+mod buffers;
+
 use crate::{Slip, Stub};
 use std::alloc::{AllocError, Global};
 use std::marker::{Brand, Model, PhantomData};
