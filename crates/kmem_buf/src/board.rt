@@ -1,11 +1,11 @@
 //! The table that a stub and its slip share. It has one word and no slot, and one seat for each of the two.
 //! The views of the seats are what the proofs go by: `specs/Board.antt` has their rule. The word is 1 while the stub is issued.
-ghost use Rattle.std.specs.Prelude.{◌≡◌, ℕ, List, [], ◌∷◌, IfOk};
+ghost use Rattle.std.specs.Prelude.{◌≡◌, ℕ, List, [], ◌∷◌};
 ghost use Rattle.kmem_buf.specs.Board.{met, issued_part, out_part, Noted, Ended, Showed, facts_of, facts_in, IsStub, IsMeeting};
 ghost use Rattle.kmem_buf.specs.declared.board.View.TheVariants.{Free, Issued, Out, Gone};
 
 use atomic_table::{Badge, Join, Play, Seat, Shared, Split, Table, TableRule};
-use std::alloc::{AllocError, Global};
+use std::alloc::Global;
 use std::marker::{Brand, PhantomData};
 
 /// What the seat of a stub or of a slip knows. No value of it is made.

@@ -1,5 +1,5 @@
 //! Owned buffers, and the cells that they come from.
-ghost use Rattle.std.specs.Prelude.{◌≡◌, true, false, IsTrue, ◌↔◌, IfOk};
+ghost use Rattle.std.specs.Prelude.{◌≡◌, true, false, IfOk};
 ghost use Rattle.std.specs.Borrow.{Lends, sem};
 ghost use Rattle.kmem_buf.specs.Homes.{IsOf};
 

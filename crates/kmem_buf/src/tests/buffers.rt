@@ -8,6 +8,7 @@ use std::marker::Model;
 use std::mem::size_of;
 use std::sync::Wait;
 use std::test::Fail;
+use std::thread::{Threads, join};
 
 // Its objects are constructed at 0, and it refuses once `left` of them are made.
 #[derive(Drop)]
@@ -166,5 +167,16 @@ fn a_client_is_asked(rt: HostRuntime) -> Result<(), Fail> {
     };
     assert_eq!(rt; asked(&rt, &mut client, to), Verdict::DontKnow);
     assert_eq!(rt; (client.answered, client.has_answered), (0, true));
+    Ok(())
+}
+
+fn seen_elsewhere<R: Threads>(rt: &R, buf: Buf<Counters>) -> u32 {
+    join(rt, move || buf.number(), || ()).0
+}
+
+#[test]
+fn a_buffer_crosses_threads(rt: HostRuntime) -> Result<(), Fail> {
+    let mut cell = Cell::create(rt.alloc(), 3)?;
+    assert_eq!(rt; seen_elsewhere(&rt, cell.take(0)), 3);
     Ok(())
 }

@@ -1,4 +1,4 @@
-use Rattle.std.proofs.Common.{◌≡◌, ℕ, ◌<◌, false, below_more, ◌∙◌, arith}
+use Rattle.std.proofs.Common.{◌≡◌, false, below_more, ◌∙◌}
 use Rattle.slab_source.specs.Source.{bit_at}
 use Rattle.slab_source.proofs.Places.{bit_at-get}
 use Rattle.slab_source.proofs.supply.next_held.Goals as goal

@@ -1,5 +1,5 @@
 use denote.RattleType.{RattleType}
-use denote.Param.Send.{IsSend, IsSync, part_keyless}
+use denote.Param.Send.{IsSync, part_keyless}
 use Rattle.kmem_buf.specs.contracts.shown.Shown.{the_row}
 use Rattle.kmem_buf.proofs.shown.Shown.TheSendSync.Send.{send}
 

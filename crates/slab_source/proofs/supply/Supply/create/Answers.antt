@@ -1,4 +1,4 @@
-use Rattle.std.proofs.Common.{◌≡◌, true, length, ◌<◌, List, Bool, arith, sym, ap, ◌∙◌}
+use Rattle.std.proofs.Common.{◌≡◌, true, length, List, Bool, arith, sym, ap, ◌∙◌}
 use Rattle.std.specs.Prelude.{replicate}
 use lib.ListN.{length-replicate}
 use Rattle.slab_source.specs.Source.{count_of, bit_at}

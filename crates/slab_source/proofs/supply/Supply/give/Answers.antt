@@ -1,7 +1,7 @@
-use Rattle.std.proofs.Common.{◌≡◌, true, false, length, ◌+◌, ◌<◌, ◌≤◌, w32, Fits, List, Bool, arith, sym, ap, ◌∙◌}
+use Rattle.std.proofs.Common.{◌≡◌, true, false, length, ◌<◌, arith, sym, ap, ◌∙◌}
 use Rattle.std.proofs.Math.ListN.{set, length-set}
 use Rattle.std.specs.FinSet as fin
-use Rattle.slab_source.specs.Source.{count_of, bit_at}
+use Rattle.slab_source.specs.Source.{bit_at}
 use Rattle.slab_source.proofs.Places.{contains-places, places-give, count_of-give, count_of-le, none-give}
 use Rattle.slab_source.proofs.supply.Supply.give.Goals as goal
 

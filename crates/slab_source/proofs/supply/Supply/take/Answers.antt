@@ -1,8 +1,7 @@
-use Rattle.std.proofs.Common.{◌≡◌, true, false, length, ℕ, ◌+◌, ◌-◌, ◌<◌, ◌≤◌, List, Bool, arith, refl, sym, ap, subst, ◌∙◌}
-use Rattle.std.proofs.Math.ListN.{set, length-set}
+use Rattle.std.proofs.Common.{◌≡◌, true, false, length, ℕ, ◌<◌, List, Bool, arith, refl, sym, ap, subst, ◌∙◌}
+use Rattle.std.proofs.Math.ListN.{length-set}
 use Rattle.std.specs.FinSet as fin
-use Rattle.std.specs.Prelude.{MatchOption}
-use Rattle.slab_source.specs.Source.{count_of, bit_at, NoneBelow, IsLeast}
+use Rattle.slab_source.specs.Source.{bit_at, NoneBelow}
 use Rattle.slab_source.proofs.Places.{contains-places, places-take, places-none, count_of-take, none-take}
 use Rattle.slab_source.proofs.supply.Supply.take.Goals as goal
 
