@@ -1,0 +1,5 @@
+pub mod Stubs
+pub mod Buffers
+pub mod Homes
+pub mod Answers
+pub mod Board
