@@ -2,3 +2,5 @@ pub mod Totals
 pub mod Keeps
 pub mod Moves
 pub mod Shares
+pub mod Hands
+pub mod Turns

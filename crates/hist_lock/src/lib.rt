@@ -1,8 +1,13 @@
 //! A lock whose value stands for a history: each turn's result is the object's at one place of one history.
 #![tactic(auto)]
 
+mod hold;
+mod lock;
+mod pass;
 mod rule;
 mod steps;
-pub mod told;
+mod told;
 
+pub use lock::HistLock;
+pub use pass::Pass;
 pub use told::{Told, Turn};
