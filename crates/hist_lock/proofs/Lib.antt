@@ -4,3 +4,5 @@ pub mod Moves
 pub mod Shares
 pub mod Hands
 pub mod Turns
+pub mod Passes
+pub mod Ending

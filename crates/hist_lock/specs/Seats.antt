@@ -1,5 +1,5 @@
 -- A seat of the lock's table between its steps.
-use Rattle.std.specs.Prelude.{◌≡◌, ℕ, ◌+◌, ◌-◌, ◌<◌, ◌≤◌, List, [], ◌∷◌, ◌++◌, length, Option, Some, None, vec_capacity}
+use Rattle.std.specs.Prelude.{◌≡◌, ℕ, ◌+◌, ◌-◌, ◌<◌, ◌≤◌, List, [], ◌∷◌, ◌++◌, map, length, Option, Some, None, vec_capacity}
 use Rattle.atomic_table.specs.Table.{Me}
 use Rattle.atomic_table.specs.Seated.{TableId}
 use Rattle.atomic_table.specs.declared.shared.Seat.{Seat}
@@ -65,3 +65,17 @@ pub record HasNoted {O E H : Type 0} (entry : Option E) (old new : Held O E) (v 
   pub room : vec_capacity new.journal ≡ vec_capacity old.journal
   pub bounds : me.0.bounds ≡ v.bounds
   pub claim : own me.0 ≡ with_journal new.journal.items (own v)
+
+-- the first seat, which has dealt so many passes and has so many entries left to deal
+pub record IsDealer {O E H : Type 0} (bounds : Bounds H) (dealt left : ℕ) (me : Sat O E H) : Type 0 where
+  pub idle : me.0.stage ≡ Idle
+  pub no_claims : me.0.claims ≡ []
+  pub dealt_is : me.0.dealt ≡ Some dealt
+  pub bounds_is : me.0.bounds ≡ Some bounds
+  pub left_is : me.0.left ≡ left
+
+-- the seat has taken in the seats of these passes
+pub record HasGathered {O E H : Type 0} (passes : List (Standing E H)) (me : Sat O E H) : Type 0 where
+  pub idle : me.0.stage ≡ Idle
+  pub empty : me.1 ≡ []
+  pub claims : me.0.claims ≡ map claim_of passes

@@ -3,11 +3,15 @@ ghost use Rattle.std.specs.Prelude.{◌≡◌, ℕ, ◌+◌, ◌^◌, ◌<◌, �
 ghost use Rattle.hist_lock.specs.History.{IsFront, entries_of};
 ghost use Rattle.hist_lock.specs.Passes.{MayMeet, IsTurn, fresh_passes};
 
+use crate::deal::{deal_all, lay};
+use crate::gather::gather_all;
 use crate::hold::{enter, leave, note, run};
 use crate::pass::Pass;
-use crate::rule::Whole;
+use crate::rule::{Held, Terms, Whole};
 use crate::told::{Told, Turn};
+use std::alloc::{AllocError, Global};
 use std::marker::Model;
+use std::snapshot::Snapshot;
 use std::sync::Wait;
 
 /// A ticket lock over an object and the history that it stands for. To contracts it is a `Site`: which lock it is, the
@@ -17,7 +21,7 @@ pub struct HistLock<O: Told> {
 }
 
 impl<O: Told> Model for HistLock<O> {
-    ghost use Rattle.std.specs.Prelude.{◌≡◌};
+    ghost use Rattle.std.specs.Prelude.{◌≡◌, ◌<◌};
     ghost use Rattle.hist_lock.specs.Passes.{Site};
     ghost use Rattle.hist_lock.specs.Seats.{site_of};
 
@@ -25,7 +29,36 @@ impl<O: Told> Model for HistLock<O> {
 
     ghost view = { λ l. site_of O.home l.table.shared.table_id l.table.shared.key };
 
-    ghost invariant = { λ l. (l.table.shared.table_id.words ≡ 3) × (l.table.shared.table_id.slots ≡ 1) };
+    ghost invariant = { λ l. (l.table.shared.table_id.words ≡ 3) × (l.table.shared.table_id.slots ≡ 1) × (0 < l.table.shared.key.count) };
+}
+
+impl<O: Told + Drop> HistLock<O> {
+    /// A lock over the object, with one pass for each quota, in order, numbered from 0. The room for all entries is taken
+    /// here. Where there is none, the object is dropped.
+    pub fn create(
+        alloc: Global,
+        object: O,
+        quotas: &[u32],
+    ) -> Result<(HistLock<O>, Vec<Pass<O>>), AllocError>
+        requires some { 0 < length quotas.now }
+        requires count { length quotas.now < 2 ^ 32 }
+        requires room { sum quotas.now < 2 ^ 32 }
+        requires stands { O.stands object [] }
+        ensures home { IfOk result (λ r. r.0.home ≡ O.home object) }
+        ensures room { IfOk result (λ r. r.0.room ≡ sum quotas.now) }
+        ensures count { IfOk result (λ r. r.0.count ≡ length quotas.now) }
+        ensures passes { IfOk result (λ r. r.1.items ≡ fresh_passes r.0 0 quotas.now) }
+    {
+        let terms = Terms {
+            origin: Snapshot::of(&object),
+            room: quotas.iter().sum(),
+            count: quotas.len() as u32,
+        };
+        let passes = Vec::with_capacity(alloc, quotas.len())?;
+        let (table, dealer) = lay(alloc, object, &terms)?;
+        let passes = deal_all(&table.shared, dealer, &terms, quotas, passes);
+        Ok((HistLock { table }, passes))
+    }
 }
 
 impl<O: Told> HistLock<O> {
@@ -58,5 +91,23 @@ impl<O: Told> HistLock<O> {
         let None = entry else { unreachable!() };
         leave(line, &mut pass.seat);
         out
+    }
+
+    /// Ends the lock, once all its passes are back: gives the object, and the history that it stands for.
+    pub fn close(self, passes: Vec<Pass<O>>) -> (O, Vec<(u32, O::Entry)>)
+        requires of { All (λ p. p.site ≡ self) passes.items }
+        requires count { length passes.items ≡ self.count }
+        ensures stands { O.stands result.0 result.1.items }
+        ensures home { O.home result.0 ≡ self.home }
+        ensures fronts { All (λ p. IsFront p.seen result.1.items) passes.items }
+        ensures exact { All (λ p. entries_of p.number result.1.items ≡ p.mine) passes.items }
+        ensures others { All (λ x. Contains (map (λ p. p.number) passes.items) x.0) result.1.items }
+    {
+        let HistLock { table } = self;
+        let seat = gather_all(&table.shared, passes);
+        let mut closed = table.close_with(seat);
+        let Held { object, journal } = closed.take(0);
+        closed.free();
+        (object, journal)
     }
 }

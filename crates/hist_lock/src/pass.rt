@@ -1,6 +1,8 @@
 //! A pass: the right to make turns under one number.
-ghost use Rattle.std.specs.Prelude.{◌≡◌, ◌^◌, ◌<◌};
+ghost use Rattle.std.specs.Prelude.{◌≡◌, [], ◌∷◌};
+ghost use Rattle.hist_lock.specs.declared.rule.Stage.TheVariants.{Idle};
 ghost use Rattle.hist_lock.specs.History.{entries_of};
+ghost use Rattle.hist_lock.specs.Seats.{claim_of};
 
 use crate::rule::{Place, Terms};
 use crate::told::Told;
@@ -35,6 +37,20 @@ impl<O: Told> Pass<O> {
         ensures exact { entries_of self.now.number self.now.seen ≡ self.now.mine }
     {
         self.number
+    }
+
+    pub(crate) fn into_seat(self) -> Place<O>
+        ensures table { result.table_id ≡ self.site.table }
+        ensures idle { (result.me.0.stage ≡ Idle) × (result.me.1 ≡ []) }
+        ensures claim { result.me.0.claims ≡ claim_of self ∷ [] }
+    {
+        let Pass {
+            seat,
+            terms: _,
+            number: _,
+            left: _,
+        } = self;
+        seat
     }
 
     /// How many entries it may still make.
