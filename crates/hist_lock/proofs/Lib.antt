@@ -6,3 +6,4 @@ pub mod Hands
 pub mod Turns
 pub mod Passes
 pub mod Ending
+pub mod Tallies

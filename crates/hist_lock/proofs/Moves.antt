@@ -43,7 +43,7 @@ set_one (x ∷ []) y e = refl
 set_one (x ∷ x' ∷ xs) y e = absurd (omega arith)
 
 module _ {E : Type 0} where
-  entries_of-append : (n : ℕ) (xs ys : List (ℕ × E)) → entries_of n (xs ++ ys) ≡ entries_of n xs ++ entries_of n ys
+  pub entries_of-append : (n : ℕ) (xs ys : List (ℕ × E)) → entries_of n (xs ++ ys) ≡ entries_of n xs ++ entries_of n ys
   entries_of-append n xs ys =
       ap (map (λ (x : ℕ × E). x.1)) (filter-append (λ (x : ℕ × E). x.0 == n) xs ys) ∙ map-append (λ (x : ℕ × E). x.1) (filter (λ (x : ℕ × E). x.0 == n) xs) (filter (λ (x : ℕ × E). x.0 == n) ys)
 

@@ -3,13 +3,12 @@ use Rattle.std.proofs.Common.{◌≡◌, ℕ, ◌+◌, ◌^◌, ◌<◌, ◌≤�
 use Rattle.std.proofs.lemmas.List.{append-nil}
 use Rattle.atomic_table.specs.Seated.{TableId}
 use Rattle.hist_lock.specs.declared.rule.Held.{Held}
-use Rattle.hist_lock.specs.declared.rule.Terms.{Terms}
 use Rattle.hist_lock.specs.declared.rule.Bounds.{Bounds}
 use Rattle.hist_lock.specs.declared.rule.Claim.{Claim}
 use Rattle.hist_lock.specs.declared.rule.Stage.TheVariants.{Idle, Holding}
 use Rattle.hist_lock.specs.History.{IsFront, entries_of, listed, told}
 use Rattle.hist_lock.specs.Passes.{Site, Standing, MayMeet, IsTurn}
-use Rattle.hist_lock.specs.Rule.{own, bounds_of}
+use Rattle.hist_lock.specs.Rule.{own}
 use Rattle.hist_lock.specs.Steps.{Sat, IsAt, IsFound, at_stage, with_journal}
 use Rattle.hist_lock.specs.Seats.{standing_of, IsResting, HasEntered, HasRun, HasNoted}
 use Rattle.hist_lock.proofs.Moves.{entries_of-push}
@@ -36,16 +35,16 @@ noted_none held me holds seen exact =
       claim = λ i. record { number = c.number; seen = sym seen i; mine = mine i };
     }
 
-module _ {O E H : Type 0} (stands : O → List (ℕ × E) → Type 0) (home_of : O → H) (terms : Terms O) (table : TableId) (number left : ℕ)
-    (me at_hand : Sat O E H) (held : Held O E) (resting : IsResting home_of terms number left me) (entered : HasEntered stands home_of me.0 held at_hand) where
+module _ {O E H : Type 0} (stands : O → List (ℕ × E) → Type 0) (home_of : O → H) (b : Bounds H) (table : TableId) (number left : ℕ)
+    (me at_hand : Sat O E H) (held : Held O E) (resting : IsResting b number left me) (entered : HasEntered stands home_of me.0 held at_hand) where
   abbrev journal : List (ℕ × E)
   journal = held.journal.items
 
   abbrev pass : Standing E H
-  pass = standing_of home_of table terms number left (own me.0)
+  pass = standing_of table b number left (own me.0)
 
-  within : (home_of held.object ≡ home_of terms.origin.value) × (length journal + me.0.left ≤ terms.room) × (terms.room < 2 ^ 32) × (terms.room ≤ vec_capacity held.journal)
-  within = let f = entered.found in f.within (bounds_of home_of terms) resting.bounds
+  within : (home_of held.object ≡ b.home) × (length journal + me.0.left ≤ b.room) × (b.room < 2 ^ 32) × (b.room ≤ vec_capacity held.journal)
+  within = let f = entered.found in f.within b resting.bounds
 
   pub meets : MayMeet pass journal
   meets = let f = entered.found in let w = within in let l = resting.left_is in record {
@@ -95,14 +94,14 @@ module _ {O E H : Type 0} (stands : O → List (ℕ × E) → Type 0) (home_of :
       stood_now : stands last.object (told journal number entry)
       stood_now = let f = entered.found in let r = ran.ran journal f.stood may in subst (λ o. stands o (told journal number entry)) (sym noted.object) r.0
 
-      home_now : home_of last.object ≡ home_of terms.origin.value
+      home_now : home_of last.object ≡ b.home
       home_now = let w = within in ap home_of noted.object ∙ (ran.home ∙ w.0)
 
       -- the value may be given back
-      pub whole : (x : Held O E) × (b : Bounds H) × IsAt Holding ((0, x) ∷ []) noted_at × (noted_at.0.bounds ≡ Some b) × (x.journal.items ≡ (own noted_at.0).seen) × stands x.object x.journal.items × (home_of x.object ≡ b.home) × (b.room ≤ vec_capacity x.journal)
+      pub whole : (x : Held O E) × (bound : Bounds H) × IsAt Holding ((0, x) ∷ []) noted_at × (noted_at.0.bounds ≡ Some bound) × (x.journal.items ≡ (own noted_at.0).seen) × stands x.object x.journal.items × (home_of x.object ≡ bound.home) × (bound.room ≤ vec_capacity x.journal)
       whole = let w = within in let s = entered.same in (
         last,
-        bounds_of home_of terms,
+        b,
         noted.holds,
         noted.bounds ∙ (ap (λ v. v.bounds) view ∙ (s.0 ∙ resting.bounds)),
         sym (ap (λ (c : Claim E). c.seen) noted.claim),
@@ -121,7 +120,7 @@ module _ {O E H : Type 0} (stands : O → List (ℕ × E) → Type 0) (home_of :
         exact_now : entries_of number (own me_now.0).seen ≡ (own me_now.0).mine
         exact_now = ap (λ (c : Claim E). entries_of number c.seen) claim_now ∙ (ap (λ n. entries_of n last.journal.items) (sym run_number) ∙ sym (ap (λ (c : Claim E). c.mine) claim_now))
 
-        pub rests : IsResting home_of terms number left_now me_now
+        pub rests : IsResting b number left_now me_now
         rests = let h = noted.holds in let s = entered.same in record {
           idle = (ap (λ (m : Sat O E H). m.0.stage) freed, ap (λ (m : Sat O E H). m.0.claims) freed ∙ (h.1 ∙ ap (λ (m : Sat O E H). own m.0 ∷ []) (sym freed)), ap (λ (m : Sat O E H). m.1) freed);
           bounds = ap (λ (m : Sat O E H). m.0.bounds) freed ∙ (noted.bounds ∙ (ap (λ v. v.bounds) view ∙ (s.0 ∙ resting.bounds)));
@@ -130,7 +129,7 @@ module _ {O E H : Type 0} (stands : O → List (ℕ × E) → Type 0) (home_of :
           exact = exact_now;
         }
 
-        pub turned : IsTurn stands home_of (tells (home_of terms.origin.value)) pass (standing_of home_of table terms number left_now (own me_now.0)) out journal entry
+        pub turned : IsTurn stands home_of (tells b.home) pass (standing_of table b number left_now (own me_now.0)) out journal entry
         turned = let f = entered.found in let w = within in let r = ran.ran journal f.stood may in
             let seen : (own me_now.0).seen ≡ told journal number entry = ap (λ (c : Claim E). c.seen) claim_now ∙ told_is in record {
               met = meets;

@@ -1,17 +1,16 @@
 -- A seat of the lock's table between its steps.
-use Rattle.std.specs.Prelude.{◌≡◌, ℕ, ◌+◌, ◌-◌, ◌<◌, ◌≤◌, List, [], ◌∷◌, ◌++◌, map, length, Option, Some, None, vec_capacity}
+use Rattle.std.specs.Prelude.{◌≡◌, ℕ, ◌+◌, ◌-◌, ◌<◌, ◌≤◌, List, [], ◌∷◌, ◌++◌, map, length, Option, Some, None, unwrap_or, vec_capacity}
 use Rattle.atomic_table.specs.Table.{Me}
 use Rattle.atomic_table.specs.Seated.{TableId}
 use Rattle.atomic_table.specs.declared.shared.Seat.{Seat}
 use Rattle.hist_lock.specs.declared.rule.Held.{Held}
-use Rattle.hist_lock.specs.declared.rule.Terms.{Terms}
 use Rattle.hist_lock.specs.declared.rule.Bounds.{Bounds}
 use Rattle.hist_lock.specs.declared.rule.Claim.{Claim}
 use Rattle.hist_lock.specs.declared.rule.Stage.TheVariants.{Idle, Holding}
 use Rattle.hist_lock.specs.declared.rule.View.{View}
 use Rattle.hist_lock.specs.History.{IsFront, entries_of, told}
 use Rattle.hist_lock.specs.Passes.{Site, Standing}
-use Rattle.hist_lock.specs.Rule.{own, bounds_of}
+use Rattle.hist_lock.specs.Rule.{own}
 use Rattle.hist_lock.specs.Steps.{Sat, IsAt, IsFound, with_journal}
 
 -- the seat is one of this table, which is a lock's
@@ -21,20 +20,24 @@ IsOf seat line = (seat ≡ line) × (line.words ≡ 3) × (line.slots ≡ 1)
 abbrev pub IsSameSeat : {S V : Type 0} → Seat S V → Seat S V → Type 0
 IsSameSeat s t = (t.table_id ≡ s.table_id) × (t.id ≡ s.id)
 
-abbrev pub site_of : {O H : Type 0} → (O → H) → TableId → Terms O → Site H
-site_of home_of table terms = record { table = table; home = home_of terms.origin.value; room = terms.room; count = terms.count }
+abbrev pub site_of : {H : Type 0} → TableId → Bounds H → Site H
+site_of table bounds = record { table = table; home = bounds.home; room = bounds.room; count = bounds.count }
+
+-- the bounds that a seat knows, or else some of this home
+abbrev pub bounds_in : {E H : Type 0} → H → View E H → Bounds H
+bounds_in anywhere v = unwrap_or v.bounds (record { home = anywhere; room = 0; count = 0 })
 
 -- a pass, as contracts see it
-abbrev pub standing_of : {O E H : Type 0} → (O → H) → TableId → Terms O → ℕ → ℕ → Claim E → Standing E H
-standing_of home_of table terms number left c = record { site = site_of home_of table terms; number = number; left = left; seen = c.seen; mine = c.mine }
+abbrev pub standing_of : {E H : Type 0} → TableId → Bounds H → ℕ → ℕ → Claim E → Standing E H
+standing_of table bounds number left c = record { site = site_of table bounds; number = number; left = left; seen = c.seen; mine = c.mine }
 
 abbrev pub claim_of : {E H : Type 0} → Standing E H → Claim E
 claim_of pass = record { number = pass.number; seen = pass.seen; mine = pass.mine }
 
 -- the seat of a pass between its turns
-pub record IsResting {O E H : Type 0} (home_of : O → H) (terms : Terms O) (number left : ℕ) (me : Sat O E H) : Type 0 where
+pub record IsResting {O E H : Type 0} (b : Bounds H) (number left : ℕ) (me : Sat O E H) : Type 0 where
   pub idle : IsAt Idle [] me
-  pub bounds : me.0.bounds ≡ Some (bounds_of home_of terms)
+  pub bounds : me.0.bounds ≡ Some b
   pub left_is : me.0.left ≡ left
   pub number_is : (own me.0).number ≡ number
   pub exact : entries_of number (own me.0).seen ≡ (own me.0).mine

@@ -11,7 +11,6 @@ use crate::told::Told;
 use atomic_table::Table;
 use std::alloc::{AllocError, Global};
 use std::marker::Brand;
-use std::snapshot::Snapshot;
 
 /// Lays out the table, with room for all entries, and gives the seat that deals.
 pub fn lay<O: Told + Drop>(
@@ -49,12 +48,11 @@ fn deal_one<O: Told, Q: Quota>(
     ensures same { IsSameSeat dealer.old dealer.new }
     ensures dealer { IsDealer (bounds_of O.home terms.now) (number + 1) dealer.new.me.0.left dealer.new.me }
     ensures left { dealer.new.me.0.left + quota ≡ dealer.old.me.0.left }
-    ensures pass { result ≡ fresh (site_of O.home line.now.table_id terms.now) number quota }
+    ensures pass { result ≡ fresh (site_of line.now.table_id (bounds_of O.home terms.now)) number quota }
 {
     let seat = split::<O, Q>(line, dealer);
     Pass {
         seat,
-        terms: Snapshot::of(terms),
         number,
         left: quota,
     }
@@ -73,7 +71,7 @@ pub fn deal_all<O: Told>(
     requires count { (length quotas.now ≡ terms.now.count) × (length quotas.now < 2 ^ 32) }
     requires none { passes.items ≡ [] }
     requires room { length quotas.now ≤ vec_capacity passes }
-    ensures { result.items ≡ fresh_passes (site_of O.home line.now.table_id terms.now) 0 quotas.now }
+    ensures { result.items ≡ fresh_passes (site_of line.now.table_id (bounds_of O.home terms.now)) 0 quotas.now }
 {
     for i in 0..quotas.len() {
         let pass = deal_one::<O, Brand>(line, &mut seat, terms, i as u32, quotas[i]);

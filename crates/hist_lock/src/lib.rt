@@ -13,3 +13,6 @@ mod told;
 pub use lock::HistLock;
 pub use pass::Pass;
 pub use told::{Told, Turn};
+
+#[cfg(test)]
+mod tests;

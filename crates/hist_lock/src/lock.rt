@@ -16,6 +16,7 @@ use std::sync::Wait;
 
 /// A ticket lock over an object and the history that it stands for. To contracts it is a `Site`: which lock it is, the
 /// object's home, how many entries its passes may make in all, and how many passes it has.
+#[derive(Drop)]
 pub struct HistLock<O: Told> {
     table: Whole<O>,
 }
@@ -23,11 +24,12 @@ pub struct HistLock<O: Told> {
 impl<O: Told> Model for HistLock<O> {
     ghost use Rattle.std.specs.Prelude.{◌≡◌, ◌<◌};
     ghost use Rattle.hist_lock.specs.Passes.{Site};
+    ghost use Rattle.hist_lock.specs.Rule.{bounds_of};
     ghost use Rattle.hist_lock.specs.Seats.{site_of};
 
     ghost Value = { Site O.Home };
 
-    ghost view = { λ l. site_of O.home l.table.shared.table_id l.table.shared.key };
+    ghost view = { λ l. site_of l.table.shared.table_id (bounds_of O.home l.table.shared.key) };
 
     ghost invariant = { λ l. (l.table.shared.table_id.words ≡ 3) × (l.table.shared.table_id.slots ≡ 1) × (0 < l.table.shared.key.count) };
 }

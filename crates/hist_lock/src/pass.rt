@@ -4,17 +4,15 @@ ghost use Rattle.hist_lock.specs.declared.rule.Stage.TheVariants.{Idle};
 ghost use Rattle.hist_lock.specs.History.{entries_of};
 ghost use Rattle.hist_lock.specs.Seats.{claim_of};
 
-use crate::rule::{Place, Terms};
+use crate::rule::Place;
 use crate::told::Told;
 use std::marker::Model;
-use std::snapshot::Snapshot;
 
 /// A pass of a lock. To contracts it is a `Standing`: its lock, its number, how many entries it may still make, the
 /// history that it has seen, and its own entries there. One that is dropped leaves its quota unused, and then the lock
 /// can't be closed.
 pub struct Pass<O: Told> {
     pub(crate) seat: Place<O>,
-    pub(crate) terms: Snapshot<Terms<O>>,
     pub(crate) number: u32,
     pub(crate) left: u32,
 }
@@ -22,13 +20,13 @@ pub struct Pass<O: Told> {
 impl<O: Told> Model for Pass<O> {
     ghost use Rattle.hist_lock.specs.Passes.{Standing};
     ghost use Rattle.hist_lock.specs.Rule.{own};
-    ghost use Rattle.hist_lock.specs.Seats.{standing_of, IsResting};
+    ghost use Rattle.hist_lock.specs.Seats.{bounds_in, standing_of, IsResting};
 
     ghost Value = { Standing O.Entry O.Home };
 
-    ghost view = { λ p. standing_of O.home p.seat.table_id p.terms.value p.number p.left (own p.seat.me.0) };
+    ghost view = { λ p. standing_of p.seat.table_id (bounds_in O.anywhere p.seat.me.0) p.number p.left (own p.seat.me.0) };
 
-    ghost invariant = { λ p. IsResting O.home p.terms.value p.number p.left p.seat.me };
+    ghost invariant = { λ p. IsResting (bounds_in O.anywhere p.seat.me.0) p.number p.left p.seat.me };
 }
 
 impl<O: Told> Pass<O> {
@@ -46,7 +44,6 @@ impl<O: Told> Pass<O> {
     {
         let Pass {
             seat,
-            terms: _,
             number: _,
             left: _,
         } = self;
@@ -65,7 +62,6 @@ impl<O: Told> Drop for Pass<O> {
     fn drop(self) {
         let Pass {
             seat: _,
-            terms: _,
             number: _,
             left: _,
         } = self;

@@ -9,6 +9,8 @@ pub trait Told {
     ghost stands: { Self → List (ℕ × Self.Entry) → Type 0 };
 
     ghost home: { Self → Self.Home };
+
+    ghost anywhere: { Self.Home };
 }
 
 pub trait Turn<O: Told> {

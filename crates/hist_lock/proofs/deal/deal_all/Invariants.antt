@@ -9,7 +9,7 @@ abbrev pub invariant-loop-i : goal.invariant-loop-i
 invariant-loop-i g l = record {
   table : l.seat.table_id ≡ l.fn.seat.table_id;
   deals : IsDealer (bounds_of g.O.Told.home l.terms) l.i (sum (drop l.i l.quotas)) l.seat.me;
-  passes : l.passes.items ≡ fresh_passes (site_of g.O.Told.home l.line.table_id l.terms) 0 (take l.i l.quotas);
+  passes : l.passes.items ≡ fresh_passes (site_of l.line.table_id (bounds_of g.O.Told.home l.terms)) 0 (take l.i l.quotas);
   room : length l.quotas ≤ vec_capacity l.passes
 }
 
