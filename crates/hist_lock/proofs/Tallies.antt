@@ -8,7 +8,8 @@ use mathlib.Core.Logic.{dite}
 use native.Mathlib.Decide.{ℕ_discrete}
 use Rattle.hist_lock.specs.History.{IsFront, entries_of}
 use Rattle.hist_lock.proofs.Moves.{entries_of-append}
-use Rattle.hist_lock.specs.Tally.{sum_of, IsTally, sums_before}
+use Rattle.hist_lock.specs.Passes.{Site, Standing}
+use Rattle.hist_lock.specs.Tally.{sum_of, IsTally, sums_before, IsDone}
 
 -- one more amount fits, where the entries can be counted
 pub tally_fits : (total adds most amount : ℕ) (history : List (ℕ × ℕ)) → IsTally total adds most history → amount ≤ most → length history + 1 < 2 ^ 32 → total + amount < 2 ^ 64
@@ -65,3 +66,19 @@ same_before number seen history mine front before now =
     nothing_more : (xs ys : List ℕ) → xs ++ ys ≡ xs → ys ≡ []
     nothing_more [] ys e = e
     nothing_more (x ∷ xs) ys e = nothing_more xs ys (cc e)
+
+-- the two passes that are popped off a list of two, the last one first
+pub two_popped : {X : Type 0} (p q a b : X) (xs ys zs : List X) → xs ≡ p ∷ q ∷ [] → xs ≡ ys ++ b ∷ [] → ys ≡ zs ++ a ∷ [] → (a ≡ p) × (b ≡ q) × (zs ≡ [])
+two_popped p q a b xs ys zs e f h = popped zs (sym (ap (λ l. l ++ b ∷ []) h) ∙ (sym f ∙ e))
+  where
+    popped : (l : List _) → (l ++ a ∷ []) ++ b ∷ [] ≡ p ∷ q ∷ [] → (a ≡ p) × (b ≡ q) × (l ≡ [])
+    popped [] k = (cc k, cc k, refl)
+    popped (x ∷ []) k = absurd (cc k)
+    popped (x ∷ y ∷ []) k = absurd (cc k)
+    popped (x ∷ y ∷ z ∷ l) k = absurd (cc k)
+
+-- what a pass found is what the whole history has before each of its entries
+pub found_whole : (site : Site ℕ) (number : ℕ) (pass : Standing ℕ ℕ) (found : List ℕ) (history : List (ℕ × ℕ)) → IsDone site number pass found → IsFront pass.seen history → entries_of pass.number history ≡ pass.mine
+    → found ≡ sums_before 0 number history
+found_whole site number pass found history done front exact =
+    done.3 ∙ sym (same_before number pass.seen history pass.mine front done.4 (ap (λ n. entries_of n history) (sym done.1) ∙ exact))

@@ -1,6 +1,6 @@
 //! The object: a sum, how many additions it has had, and the most that one may add.
 ghost use Rattle.std.specs.Prelude.{◌≡◌, ℕ, ◌+◌, ◌^◌, ◌<◌, ◌≤◌, [], ◌∷◌, ◌++◌, length, IfOk, vec_capacity};
-ghost use Rattle.hist_lock.specs.Tally.{sum_of, sums_before};
+ghost use Rattle.hist_lock.specs.Tally.{IsReady, IsDone};
 
 use crate::{HistLock, Pass, Told, Turn};
 use std::alloc::{AllocError, Global};
@@ -76,7 +76,7 @@ pub struct Done {
 }
 
 // The amount that a pass adds at its turn i: pass 0 adds 1, 2, 3 and so on, and each next one ten times as much.
-fn amount(number: u32, i: u32) -> u32
+pub fn amount(number: u32, i: u32) -> u32
     requires { i ≤ 10000 }
     ensures { result ≤ 10000000 }
 {
@@ -90,15 +90,9 @@ fn amount(number: u32, i: u32) -> u32
 
 /// Adds until the pass has nothing left.
 pub fn add_all<R: Wait>(rt: &R, lock: &HistLock<Tally>, done: Done) -> Done
-    requires of { done.pass.site ≡ lock.now }
     requires most { lock.now.home ≡ 10000000 }
-    requires left { done.pass.left ≤ 10000 }
-    requires new { (done.pass.seen ≡ []) × (done.found.items ≡ []) }
-    requires room { done.pass.left ≤ vec_capacity done.found }
-    ensures of { result.pass.site ≡ lock.now }
-    ensures number { result.pass.number ≡ done.pass.number }
-    ensures left { result.pass.left ≡ 0 }
-    ensures found { result.found.items ≡ sums_before 0 result.pass.number result.pass.seen }
+    requires ready { IsReady lock.now done.pass done.found.items (vec_capacity done.found) }
+    ensures { IsDone lock.now done.pass.number result.pass result.found.items }
 {
     let Done {
         mut pass,

@@ -9,8 +9,8 @@ invariant-loop-i g l = record {
   of : l.pass.site ≡ l.lock;
   number_is : l.pass.number ≡ l.fn.done.pass.number;
   so_far : l.i + l.pass.left ≡ l.fn.done.pass.left;
-  found : l.found.items ≡ sums_before 0 l.pass.number l.pass.seen;
-  exact : entries_of l.pass.number l.pass.seen ≡ l.pass.mine;
+  found : l.found.items ≡ sums_before 0 l.fn.done.pass.number l.pass.seen;
+  exact : entries_of l.fn.done.pass.number l.pass.seen ≡ l.pass.mine;
   room : vec_len l.found + l.pass.left ≤ vec_capacity l.found
 }
 
