@@ -77,7 +77,7 @@ module _ {O E H : Type 0} (bounds : Bounds H) (stands : O → List (ℕ × E) �
   pub few : (s : St) (r : Rule s) → r.waiting ≤ r.dealt
   few s r =
       let less = total_le (λ v. sum_by one (tickets_of v)) (λ v. sum_by one (numbers_of v)) s.views
-          (λ i v at. let fits = r.seats i v at in let t = fits.ticket in omega (arith, total-one (tickets_of v), total-one (numbers_of v), length-map v.claims (λ (c : Claim E). c.number))) in
+      (λ i v at. let fits = r.seats i v at in let t = fits.ticket in omega (arith, total-one (tickets_of v), total-one (numbers_of v), length-map v.claims (λ (c : Claim E). c.number))) in
       omega (arith, less, r.tickets one, r.numbers one, run_one r.serving r.waiting, run_one 0 r.dealt)
 
   -- a seat's ticket is one of those that are out

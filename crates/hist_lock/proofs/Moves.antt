@@ -125,9 +125,9 @@ module _ {O E H : Type 0} (bounds : Bounds H) (stands : O → List (ℕ × E) �
       let found : get_or s.words 0 0 ≡ t % 2 ^ 64 = ap (λ ws. get_or ws 0 0) r.words in
       let one_more : t + 1 ≡ r.serving + (r.waiting + 1) = omega arith in
       let next : (get_or s.words 0 0 + 1) % 2 ^ 64 ≡ (r.serving + (r.waiting + 1)) % 2 ^ 64 =
-          ap (λ n. (n + 1) % 2 ^ 64) found ∙ (mod-add-mod t (2 ^ 64) 1 ∙ ap (λ n. n % 2 ^ 64) one_more) in
+      ap (λ n. (n + 1) % 2 ^ 64) found ∙ (mod-add-mod t (2 ^ 64) 1 ∙ ap (λ n. n % 2 ^ 64) one_more) in
       let words : set s.words 0 ((get_or s.words 0 0 + 1) % 2 ^ 64) ≡ words_of ((r.serving + (r.waiting + 1)) % 2 ^ 64) (r.serving % 2 ^ 64) (length r.log) =
-          ap (λ ws. set ws 0 ((get_or s.words 0 0 + 1) % 2 ^ 64)) r.words ∙ ap (λ n. words_of n (r.serving % 2 ^ 64) (length r.log)) next in
+      ap (λ ws. set ws 0 ((get_or s.words 0 0 + 1) % 2 ^ 64)) r.words ∙ ap (λ n. words_of n (r.serving % 2 ^ 64) (length r.log)) next in
       let none_yet : tickets_of v ≡ [] = ap (λ st. drawn st v.ticket) is.0 in
       let tickets : IsSpread tickets_of (set s.views id w) (range_with_len r.serving (r.waiting + 1)) = λ (f : ℕ → ℕ). omega (arith, total_set (λ u. sum_by f (tickets_of u)) s.views id v w at, ap (sum_by f) none_yet, r.tickets f, run_last f r.serving r.waiting) in (
         w,
@@ -142,29 +142,29 @@ module _ {O E H : Type 0} (bounds : Bounds H) (stands : O → List (ℕ × E) �
   looks slots id me is s r one at small =
       let v = me.0 in let found : get_or s.words 1 0 ≡ r.serving % 2 ^ 64 = ap (λ ws. get_or ws 1 0) r.words in
       dite (ℕ_discrete (get_or s.words 1 0) (v.ticket % 2 ^ 64))
-          (λ e. let w = at_stage Called v in
-          let line = in_line bounds stands home_of s r id v Waiting at is.0 drawn_waiting in
-          let near : v.ticket < r.serving + 2 ^ 64 = let a = few bounds stands home_of s r in let b = r.dealt_in in let c = r.small in omega arith in
-          let served : r.serving ≡ v.ticket = one_turn r.serving v.ticket (2 ^ 64) line.0 near (sym found ∙ e) in
-          let same : tickets_of w ≡ tickets_of v = sym (ap (λ st. drawn st v.ticket) is.0) in (
-            w,
-            keeps,
-            tt,
-            changed bounds stands home_of s r id v w at (set s.words 1 (get_or s.words 1 0)) s.homes r.serving r.waiting r.log (same_words s r 1)
-                (spread_kept tickets_of s.views (range_with_len r.serving r.waiting) id v w at same r.tickets) refl (omega arith) r.known
-                (restaged s r id v w r.serving at refl refl refl (sym served) (omega (arith, ap length is.1))) (λ j u _ _ f. f)
-                (slot_kept s r id v w at (λ h. absurd (cc (h, is.0))) (λ h. absurd (cc h))),
-            ((λ _. refl), λ ne. absurd (ne e)),
-          ))
-          (λ ne. let f = r.seats id v at in (
-            v,
-            keeps,
-            tt,
-            changed bounds stands home_of s r id v v at (set s.words 1 (get_or s.words 1 0)) s.homes r.serving r.waiting r.log (same_words s r 1)
-                (spread_kept tickets_of s.views (range_with_len r.serving r.waiting) id v v at refl r.tickets) refl (omega arith) r.known f (λ j u _ _ f. f)
-                (slot_kept s r id v v at (λ h. absurd (cc (h, is.0))) (λ h. absurd (cc (h, is.0)))),
-            ((λ e. absurd (ne e)), λ _. refl),
-          ))
+      (λ e. let w = at_stage Called v in
+      let line = in_line bounds stands home_of s r id v Waiting at is.0 drawn_waiting in
+      let near : v.ticket < r.serving + 2 ^ 64 = let a = few bounds stands home_of s r in let b = r.dealt_in in let c = r.small in omega arith in
+      let served : r.serving ≡ v.ticket = one_turn r.serving v.ticket (2 ^ 64) line.0 near (sym found ∙ e) in
+      let same : tickets_of w ≡ tickets_of v = sym (ap (λ st. drawn st v.ticket) is.0) in (
+        w,
+        keeps,
+        tt,
+        changed bounds stands home_of s r id v w at (set s.words 1 (get_or s.words 1 0)) s.homes r.serving r.waiting r.log (same_words s r 1)
+            (spread_kept tickets_of s.views (range_with_len r.serving r.waiting) id v w at same r.tickets) refl (omega arith) r.known
+            (restaged s r id v w r.serving at refl refl refl (sym served) (omega (arith, ap length is.1))) (λ j u _ _ f. f)
+            (slot_kept s r id v w at (λ h. absurd (cc (h, is.0))) (λ h. absurd (cc h))),
+        ((λ _. refl), λ ne. absurd (ne e)),
+      ))
+      (λ ne. let f = r.seats id v at in (
+        v,
+        keeps,
+        tt,
+        changed bounds stands home_of s r id v v at (set s.words 1 (get_or s.words 1 0)) s.homes r.serving r.waiting r.log (same_words s r 1)
+            (spread_kept tickets_of s.views (range_with_len r.serving r.waiting) id v v at refl r.tickets) refl (omega arith) r.known f (λ j u _ _ f. f)
+            (slot_kept s r id v v at (λ h. absurd (cc (h, is.0))) (λ h. absurd (cc (h, is.0)))),
+        ((λ e. absurd (ne e)), λ _. refl),
+      ))
 
   -- what the one claim of a pass says
   own_fits : (s : St) (r : R s) (id : ℕ) (v : V) → get_elem? s.views id ≡ some v → v.claims ≡ own v ∷ [] → FitsClaim r.log (own v)
@@ -237,20 +237,20 @@ module _ {O E H : Type 0} (bounds : Bounds H) (stands : O → List (ℕ × E) �
       let found : get_or s.words 2 0 ≡ length r.log = ap (λ ws. get_or ws 2 0) r.words in
       let next : (get_or s.words 2 0 + 1) % 2 ^ 64 ≡ length journal = ap (λ n. (n + 1) % 2 ^ 64) found ∙ (mod-eq_of_lt (omega arith) ∙ sym length_is) in
       let words : set s.words 2 ((get_or s.words 2 0 + 1) % 2 ^ 64) ≡ words_of ((r.serving + r.waiting) % 2 ^ 64) (r.serving % 2 ^ 64) (length journal) =
-          ap (λ ws. set ws 2 ((get_or s.words 2 0 + 1) % 2 ^ 64)) r.words ∙ ap (words_of ((r.serving + r.waiting) % 2 ^ 64) (r.serving % 2 ^ 64)) next in
+      ap (λ ws. set ws 2 ((get_or s.words 2 0 + 1) % 2 ^ 64)) r.words ∙ ap (words_of ((r.serving + r.waiting) % 2 ^ 64) (r.serving % 2 ^ 64)) next in
       let numbers : numbers_of w ≡ numbers_of v = ap (map (λ (c : Claim E). c.number)) (sym is.1) in
       let known : All (λ (y : ℕ × E). y.0 < r.dealt) journal = All-same (λ y. y.0 < r.dealt) journal (r.log ++ (n, x) ∷ []) longer
-          (All-push (λ (y : ℕ × E). y.0 < r.dealt) r.log (n, x) r.known (dealt_number bounds stands home_of s r id v (own v) at is.1)) in
+      (All-push (λ (y : ℕ × E). y.0 < r.dealt) r.log (n, x) r.known (dealt_number bounds stands home_of s r id v (own v) at is.1)) in
       let others : (j : ℕ) (u : V) → j ≢ id → get_elem? s.views j ≡ some u → Fits bounds r.serving r.dealt r.log j u → Fits bounds r.serving r.dealt journal j u = λ j u ne there f.
-          let differ = others_differ bounds stands home_of s r id j v u (own v) ne at there is.1 in record {
-            of = f.of;
-            deals = f.deals;
-            claims = λ k d lt. let c = get_or u.claims k d in subst (λ l. FitsClaim l c) (sym longer) (claim_longer r.log n x c (λ e. differ k d lt (sym e)) (f.claims k d lt));
-            stage = stage_longer r.serving r.log journal u.ticket (own u) u.stage
-                (λ holding. let theirs = stage_at s r j u Holding there holding in alone bounds stands home_of s r id j v u Holding Holding ne at there is.0 holding drawn_holding drawn_holding fits.0 theirs.0)
-                f.stage;
-            ticket = f.ticket;
-          } in (
+      let differ = others_differ bounds stands home_of s r id j v u (own v) ne at there is.1 in record {
+        of = f.of;
+        deals = f.deals;
+        claims = λ k d lt. let c = get_or u.claims k d in subst (λ l. FitsClaim l c) (sym longer) (claim_longer r.log n x c (λ e. differ k d lt (sym e)) (f.claims k d lt));
+        stage = stage_longer r.serving r.log journal u.ticket (own u) u.stage
+            (λ holding. let theirs = stage_at s r j u Holding there holding in alone bounds stands home_of s r id j v u Holding Holding ne at there is.0 holding drawn_holding drawn_holding fits.0 theirs.0)
+            f.stage;
+        ticket = f.ticket;
+      } in (
         w,
         keeps,
         tt,
@@ -269,8 +269,8 @@ module _ {O E H : Type 0} (bounds : Bounds H) (stands : O → List (ℕ × E) �
       let tickets : tickets_of w ≡ tickets_of v = sym (ap (λ st. drawn st v.ticket) is.0) in
       let homes : Rattle.atomic_table.specs.Table.put_back s.homes me.1 ≡ some held ∷ [] = ap (Rattle.atomic_table.specs.Table.put_back s.homes) is.2 ∙ set_one s.homes (some held) (one ∙ single) in
       let none_out : IsIn (set s.views id w) = seats_set (λ j u. get_elem? s.views j ≡ some u) (λ j u. u.stage ≢ Holding) s.views id w (λ h. absurd (cc h))
-          (λ j u ne there _ holding. let theirs = stage_at s r j u Holding there holding in alone bounds stands home_of s r id j v u Holding Holding ne at there is.0 holding drawn_holding drawn_holding fits.0 theirs.0)
-          (λ j u there. there) in (
+      (λ j u ne there _ holding. let theirs = stage_at s r j u Holding there holding in alone bounds stands home_of s r id j v u Holding Holding ne at there is.0 holding drawn_holding drawn_holding fits.0 theirs.0)
+      (λ j u there. there) in (
         w,
         gives,
         tt,
@@ -290,10 +290,10 @@ module _ {O E H : Type 0} (bounds : Bounds H) (stands : O → List (ℕ × E) �
       let next : (get_or s.words 1 0 + 1) % 2 ^ 64 ≡ (r.serving + 1) % 2 ^ 64 = ap (λ n. (n + 1) % 2 ^ 64) found ∙ mod-add-mod r.serving (2 ^ 64) 1 in
       let drawn_same : r.serving + r.waiting ≡ r.serving + 1 + (r.waiting - 1) = omega arith in
       let words : set s.words 1 ((get_or s.words 1 0 + 1) % 2 ^ 64) ≡ words_of ((r.serving + 1 + (r.waiting - 1)) % 2 ^ 64) ((r.serving + 1) % 2 ^ 64) (length r.log) =
-          ap (λ ws. set ws 1 ((get_or s.words 1 0 + 1) % 2 ^ 64)) r.words ∙ (λ i. words_of (drawn_same i % 2 ^ 64) (next i) (length r.log)) in
+      ap (λ ws. set ws 1 ((get_or s.words 1 0 + 1) % 2 ^ 64)) r.words ∙ (λ i. words_of (drawn_same i % 2 ^ 64) (next i) (length r.log)) in
       let had : tickets_of v ≡ r.serving ∷ [] = ap (λ st. drawn st v.ticket) is.0 ∙ ap (λ n. n ∷ []) served in
       let tickets : IsSpread tickets_of (set s.views id w) (range_with_len (r.serving + 1) (r.waiting - 1)) = λ (f : ℕ → ℕ).
-          omega (arith, total_set (λ u. sum_by f (tickets_of u)) s.views id v w at, ap (sum_by f) had, r.tickets f, run_first f r.serving r.waiting some_wait) in
+      omega (arith, total_set (λ u. sum_by f (tickets_of u)) s.views id v w at, ap (sum_by f) had, r.tickets f, run_first f r.serving r.waiting some_wait) in
       let others : (j : ℕ) (u : V) → j ≢ id → get_elem? s.views j ≡ some u → Fits bounds r.serving r.dealt r.log j u → Fits bounds (r.serving + 1) r.dealt r.log j u = λ j u ne there f. record {
         of = f.of;
         deals = f.deals;

@@ -93,10 +93,10 @@ module _ {O E H : Type 0} (bounds : Bounds H) (stands : O → List (ℕ × E) �
       let f = r.seats id v at in let w = dealt_one quota v in let new = newcomer quota v in let views = set s.views id w in
       let first = f.deals n dealt in let same = f.of b bound in let number : dealt_of v ≡ n = ap (λ d. unwrap_or d 0) dealt in
       let tickets : IsSpread tickets_of (views ++ new ∷ []) (range_with_len r.serving r.waiting) = λ (g : ℕ → ℕ).
-          omega (arith, sum_by_push (λ u. sum_by g (tickets_of u)) views new, spread_kept tickets_of s.views (range_with_len r.serving r.waiting) id v w at refl r.tickets g) in
+      omega (arith, sum_by_push (λ u. sum_by g (tickets_of u)) views new, spread_kept tickets_of s.views (range_with_len r.serving r.waiting) id v w at refl r.tickets g) in
       let next : 0 + r.dealt ≡ dealt_of v = omega arith in
       let numbers : IsSpread numbers_of (views ++ new ∷ []) (range_with_len 0 (r.dealt + 1)) = λ (g : ℕ → ℕ).
-          omega (arith, sum_by_push (λ u. sum_by g (numbers_of u)) views new, spread_kept numbers_of s.views (range_with_len 0 r.dealt) id v w at refl r.numbers g, run_last g 0 r.dealt, ap g next) in
+      omega (arith, sum_by_push (λ u. sum_by g (numbers_of u)) views new, spread_kept numbers_of s.views (range_with_len 0 r.dealt) id v w at refl r.numbers g, run_last g 0 r.dealt, ap g next) in
       let nothing : entries_of (dealt_of v) r.log ≡ [] = none_of (dealt_of v) r.log (All-weaker (λ x. x.0 < r.dealt) (λ x. x.0 < dealt_of v) (λ x lt. omega arith) r.log r.known) in
       let dealing : Fits bounds r.serving (r.dealt + 1) r.log id w = record {
         of = f.of;
@@ -137,10 +137,15 @@ module _ {O E H : Type 0} (bounds : Bounds H) (stands : O → List (ℕ × E) �
             (λ (t : new ≡ u). subst (Fits bounds r.serving (r.dealt + 1) r.log j) t (joining j))
             (at_snoc views new u j e);
         slot = ⊎_elim
-            (λ (t : Home s.homes r.log s.views). inl (t.0, t.1, t.2, λ j u e. ⊎_elim
-                (λ (k : get_elem? views j ≡ some u). in_kept s.views id w not_holding t.3 j u k)
-                (λ (k : new ≡ u) h. let i : Idle ≡ Holding = ap (λ (x : V). x.stage) k ∙ h in absurd (cc i))
-                (at_snoc views new u j e)))
+            (λ (t : Home s.homes r.log s.views). inl (
+              t.0,
+              t.1,
+              t.2,
+              λ j u e. ⊎_elim
+                  (λ (k : get_elem? views j ≡ some u). in_kept s.views id w not_holding t.3 j u k)
+                  (λ (k : new ≡ u) h. let i : Idle ≡ Holding = ap (λ (x : V). x.stage) k ∙ h in absurd (cc i))
+                  (at_snoc views new u j e),
+            ))
             (λ (o : IsOut s.views). let out = out_kept s.views id v w at (λ h. h) o in inr (out.0, out.1, at_longer views (new ∷ []) out.0 out.1 out.2, out.3))
             r.slot;
       }
@@ -152,10 +157,10 @@ module _ {O E H : Type 0} (bounds : Bounds H) (stands : O → List (ℕ × E) �
       let fu = r.seats other u there_before in
       let no_ticket : tickets_of v ≡ [] = ap (λ st. drawn st v.ticket) idle in let no_other : tickets_of u ≡ [] = ap (λ st. drawn st u.ticket) other_idle in
       let tickets : IsSpread tickets_of (set views other gone) (range_with_len r.serving r.waiting) = λ (g : ℕ → ℕ).
-          omega (arith, total_set (λ x. sum_by g (tickets_of x)) views other u gone there, spread_kept tickets_of s.views (range_with_len r.serving r.waiting) id v w at refl r.tickets g, ap (sum_by g) no_other) in
+      omega (arith, total_set (λ x. sum_by g (tickets_of x)) views other u gone there, spread_kept tickets_of s.views (range_with_len r.serving r.waiting) id v w at refl r.tickets g, ap (sum_by g) no_other) in
       let numbers : IsSpread numbers_of (set views other gone) (range_with_len 0 r.dealt) = λ (g : ℕ → ℕ).
-          let split : numbers_of w ≡ numbers_of u ++ numbers_of v = map-append (λ (c : Claim E). c.number) u.claims v.claims in
-          omega (arith, total_set (λ x. sum_by g (numbers_of x)) views other u gone there, total_set (λ x. sum_by g (numbers_of x)) s.views id v w at, ap (sum_by g) split, sum_by-append g (numbers_of u) (numbers_of v), r.numbers g) in
+      let split : numbers_of w ≡ numbers_of u ++ numbers_of v = map-append (λ (c : Claim E). c.number) u.claims v.claims in
+      omega (arith, total_set (λ x. sum_by g (numbers_of x)) views other u gone there, total_set (λ x. sum_by g (numbers_of x)) s.views id v w at, ap (sum_by g) split, sum_by-append g (numbers_of u) (numbers_of v), r.numbers g) in
       let mine : Fits bounds r.serving r.dealt r.log id w = record {
         of = f.of;
         deals = f.deals;
@@ -208,22 +213,22 @@ module _ {O E H : Type 0} (bounds : Bounds H) (stands : O → List (ℕ × E) �
       let total = r.numbers one in let limit = r.dealt_in in
       let whole : sum_by F s.views ≤ F v = omega (arith, run_one 0 r.dealt) in
       let home : Home s.homes r.log s.views = ⊎_elim (λ (h : Home s.homes r.log s.views). h)
-          (λ (o : IsOut s.views). absurd (dite (ℕ_discrete o.0 id)
-          (λ e. let same : v ≡ o.1 = some-injective v o.1 (sym at ∙ (ap (get_elem? s.views) (sym e) ∙ o.2)) in
-          let i : Idle ≡ Holding = sym idle ∙ (ap (λ (u : V). u.stage) same ∙ o.3) in absurd (cc i))
-          (λ ne. let fu = r.seats o.0 o.1 o.2 in let t = fu.ticket in
-          let two = total_two F s.views id o.0 v o.1 (λ e. ne (sym e)) at o.2 in
-          let theirs : F o.1 ≡ length o.1.claims = total-one (numbers_of o.1) ∙ length-map o.1.claims (λ (c : Claim E). c.number) in
-          let ticket : tickets_of o.1 ≡ o.1.ticket ∷ [] = ap (λ st. drawn st o.1.ticket) o.3 in
-          omega (arith, ap length ticket))))
-          r.slot in
+      (λ (o : IsOut s.views). absurd (dite (ℕ_discrete o.0 id)
+      (λ e. let same : v ≡ o.1 = some-injective v o.1 (sym at ∙ (ap (get_elem? s.views) (sym e) ∙ o.2)) in
+      let i : Idle ≡ Holding = sym idle ∙ (ap (λ (u : V). u.stage) same ∙ o.3) in absurd (cc i))
+      (λ ne. let fu = r.seats o.0 o.1 o.2 in let t = fu.ticket in
+      let two = total_two F s.views id o.0 v o.1 (λ e. ne (sym e)) at o.2 in
+      let theirs : F o.1 ≡ length o.1.claims = total-one (numbers_of o.1) ∙ length-map o.1.claims (λ (c : Claim E). c.number) in
+      let ticket : tickets_of o.1 ≡ o.1.ticket ∷ [] = ap (λ st. drawn st o.1.ticket) o.3 in
+      omega (arith, ap length ticket))))
+      r.slot in
       let same : home.0 ≡ held = some-injective home.0 held (sym (final.4 0 home.0 (ap (λ hs. get_elem? hs 0) home.1)) ∙ here) in
       let h = home.2 in
       let known : All (λ x. Contains (numbers_of v) x.0) r.log = All-weaker (λ x. x.0 < r.dealt) (λ x. Contains (numbers_of v) x.0)
-          (λ x lt. let only = total_only F (λ u. sum_by (mark x.0) (numbers_of u)) s.views id v at whole
-              (λ u z. total_none one (mark x.0) (numbers_of u) z (λ n e. absurd (omega arith))) in
-          let all = r.numbers (mark x.0) in let has = run_has x.0 0 r.dealt (omega arith) (omega arith) in
-          contains_marked x.0 (numbers_of v) (omega arith)) r.log r.known in
+      (λ x lt. let only = total_only F (λ u. sum_by (mark x.0) (numbers_of u)) s.views id v at whole
+      (λ u z. total_none one (mark x.0) (numbers_of u) z (λ n e. absurd (omega arith))) in
+      let all = r.numbers (mark x.0) in let has = run_has x.0 0 r.dealt (omega arith) (omega arith) in
+      contains_marked x.0 (numbers_of v) (omega arith)) r.log r.known in
       let closed : IsClosed home.0 v.claims = record {
         stood = subst (stands home.0.object) (sym h.journal) h.stood;
         home = h.home;

@@ -25,22 +25,22 @@ sums_before-own more number amount (x ∷ xs) =
     let e : more + x.1 + sum_of xs ≡ more + sum_of (x ∷ xs) = omega (arith, sum_by-cons (λ (y : ℕ × ℕ). y.1) x xs) in
     let more_is : sums_before (more + x.1) number (xs ++ (number, amount) ∷ []) ≡ rest ++ (more + sum_of (x ∷ xs)) ∷ [] = sums_before-own (more + x.1) number amount xs ∙ ap (λ n. rest ++ n ∷ []) e in
     dite (ℕ_discrete x.0 number)
-        (λ same. let yes = eq-eqb x.0 number same in
-            ap (λ b. cond b (more ∷ sums_before (more + x.1) number (xs ++ (number, amount) ∷ [])) (sums_before (more + x.1) number (xs ++ (number, amount) ∷ []))) yes
-            ∙ (ap (λ l. more ∷ l) more_is ∙ ap (λ b. cond b (more ∷ rest) rest ++ (more + sum_of (x ∷ xs)) ∷ []) (sym yes)))
-        (λ other. let no = ne_eqb x.0 number other in
-            ap (λ b. cond b (more ∷ sums_before (more + x.1) number (xs ++ (number, amount) ∷ [])) (sums_before (more + x.1) number (xs ++ (number, amount) ∷ []))) no
-            ∙ (more_is ∙ ap (λ b. cond b (more ∷ rest) rest ++ (more + sum_of (x ∷ xs)) ∷ []) (sym no)))
+    (λ same. let yes = eq-eqb x.0 number same in
+    ap (λ b. cond b (more ∷ sums_before (more + x.1) number (xs ++ (number, amount) ∷ [])) (sums_before (more + x.1) number (xs ++ (number, amount) ∷ []))) yes
+    ∙ (ap (λ l. more ∷ l) more_is ∙ ap (λ b. cond b (more ∷ rest) rest ++ (more + sum_of (x ∷ xs)) ∷ []) (sym yes)))
+    (λ other. let no = ne_eqb x.0 number other in
+    ap (λ b. cond b (more ∷ sums_before (more + x.1) number (xs ++ (number, amount) ∷ [])) (sums_before (more + x.1) number (xs ++ (number, amount) ∷ []))) no
+    ∙ (more_is ∙ ap (λ b. cond b (more ∷ rest) rest ++ (more + sum_of (x ∷ xs)) ∷ []) (sym no)))
 
 -- entries of other passes behind it change nothing
 none_before : (more number : ℕ) (later : List (ℕ × ℕ)) → entries_of number later ≡ [] → sums_before more number later ≡ []
 none_before more number [] e = refl
 none_before more number (x ∷ xs) e = dite (ℕ_discrete x.0 number)
     (λ same. let kept = filter (λ (y : ℕ × ℕ). y.0 == number) xs in
-        let had : x.1 ∷ entries_of number xs ≡ [] = ap (λ b. map (λ (y : ℕ × ℕ). y.1) (cond b (x ∷ kept) kept)) (sym (eq-eqb x.0 number same)) ∙ e in absurd (cc had))
+    let had : x.1 ∷ entries_of number xs ≡ [] = ap (λ b. map (λ (y : ℕ × ℕ). y.1) (cond b (x ∷ kept) kept)) (sym (eq-eqb x.0 number same)) ∙ e in absurd (cc had))
     (λ other. let no = ne_eqb x.0 number other in let kept = filter (λ (y : ℕ × ℕ). y.0 == number) xs in
-        let fewer : entries_of number xs ≡ [] = ap (λ b. map (λ (y : ℕ × ℕ). y.1) (cond b (x ∷ kept) kept)) (sym no) ∙ e in
-        ap (λ b. cond b (more ∷ sums_before (more + x.1) number xs) (sums_before (more + x.1) number xs)) no ∙ none_before (more + x.1) number xs fewer)
+    let fewer : entries_of number xs ≡ [] = ap (λ b. map (λ (y : ℕ × ℕ). y.1) (cond b (x ∷ kept) kept)) (sym no) ∙ e in
+    ap (λ b. cond b (more ∷ sums_before (more + x.1) number xs) (sums_before (more + x.1) number xs)) no ∙ none_before (more + x.1) number xs fewer)
 
 sums_before-append : (more number : ℕ) (seen later : List (ℕ × ℕ)) → sums_before more number (seen ++ later) ≡ sums_before more number seen ++ sums_before (more + sum_of seen) number later
 sums_before-append more number [] later = let e : more ≡ more + 0 = omega arith in ap (λ n. sums_before n number later) e
@@ -49,17 +49,17 @@ sums_before-append more number (x ∷ xs) later =
     let rest = sums_before (more + x.1) number xs in let after = sums_before (more + sum_of (x ∷ xs)) number later in
     let ih : sums_before (more + x.1) number (xs ++ later) ≡ rest ++ after = sums_before-append (more + x.1) number xs later ∙ ap (λ n. rest ++ sums_before n number later) e in
     dite (ℕ_discrete x.0 number)
-        (λ same. let yes = eq-eqb x.0 number same in let all = sums_before (more + x.1) number (xs ++ later) in
-            ap (λ b. cond b (more ∷ all) all) yes ∙ (ap (λ l. more ∷ l) ih ∙ ap (λ b. cond b (more ∷ rest) rest ++ after) (sym yes)))
-        (λ other. let no = ne_eqb x.0 number other in let all = sums_before (more + x.1) number (xs ++ later) in
-            ap (λ b. cond b (more ∷ all) all) no ∙ (ih ∙ ap (λ b. cond b (more ∷ rest) rest ++ after) (sym no)))
+    (λ same. let yes = eq-eqb x.0 number same in let all = sums_before (more + x.1) number (xs ++ later) in
+    ap (λ b. cond b (more ∷ all) all) yes ∙ (ap (λ l. more ∷ l) ih ∙ ap (λ b. cond b (more ∷ rest) rest ++ after) (sym yes)))
+    (λ other. let no = ne_eqb x.0 number other in let all = sums_before (more + x.1) number (xs ++ later) in
+    ap (λ b. cond b (more ∷ all) all) no ∙ (ih ∙ ap (λ b. cond b (more ∷ rest) rest ++ after) (sym no)))
 
 -- what a pass's turns found is the same in a longer history with no more entries of the pass
 pub same_before : (number : ℕ) (seen history : List (ℕ × ℕ)) (mine : List ℕ) → IsFront seen history → entries_of number seen ≡ mine → entries_of number history ≡ mine → sums_before 0 number history ≡ sums_before 0 number seen
 same_before number seen history mine front before now =
     let later = front.0 in
     let joined : entries_of number seen ++ entries_of number later ≡ entries_of number seen =
-        sym (entries_of-append number seen later) ∙ (ap (entries_of number) front.1 ∙ (now ∙ sym before)) in
+    sym (entries_of-append number seen later) ∙ (ap (entries_of number) front.1 ∙ (now ∙ sym before)) in
     let none : entries_of number later ≡ [] = nothing_more (entries_of number seen) (entries_of number later) joined in
     ap (sums_before 0 number) (sym front.1) ∙ (sums_before-append 0 number seen later ∙ (ap (λ l. sums_before 0 number seen ++ l) (none_before (0 + sum_of seen) number later none) ∙ append-nil (sums_before 0 number seen)))
   where

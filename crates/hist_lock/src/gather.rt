@@ -15,7 +15,9 @@ pub fn gather_all<O: Told>(line: &Line<O>, mut passes: Vec<Pass<O>>) -> Place<O>
     ensures table { result.table_id ≡ line.now.table_id }
     ensures gathered { HasGathered passes.items result.me }
 {
-    let Some(last) = passes.pop() else { unreachable!() };
+    let Some(last) = passes.pop() else {
+        unreachable!()
+    };
     let mut seat = last.into_seat();
     while let Some(pass) = passes.pop() {
         join(line, &mut seat, pass.into_seat());

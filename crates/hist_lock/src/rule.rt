@@ -162,7 +162,4 @@ pub type Whole<O> = Table<
     Global,
 >;
 
-pub type Place<O> = Seat<
-    Held<O, <O as Told>::Entry>,
-    View<<O as Told>::Entry, <O as Told>::Home>,
->;
+pub type Place<O> = Seat<Held<O, <O as Told>::Entry>, View<<O as Told>::Entry, <O as Told>::Home>>;

@@ -1,5 +1,5 @@
 //! A client: several threads add to one sum.
-ghost use Rattle.std.specs.Prelude.{◌≡◌, ◌≤◌, IfOk, vec_capacity};
+ghost use Rattle.std.specs.Prelude.{◌≡◌, ◌≤◌, [], IfOk, vec_capacity};
 ghost use Rattle.hist_lock.specs.Tally.{sum_of, sums_before, IsReady, IsDone};
 
 use crate::{HistLock, Pass};
@@ -71,7 +71,9 @@ fn two_threads<R: Threads + Wait + Sync>(
     let first = Vec::with_capacity(alloc, quota as usize)?;
     let second = Vec::with_capacity(alloc, quota as usize)?;
     let (lock, mut passes) = HistLock::create(alloc, new_tally(), &[quota, quota])?;
-    let (Some(b), Some(a)) = (passes.pop(), passes.pop()) else { unreachable!() };
+    let (Some(b), Some(a)) = (passes.pop(), passes.pop()) else {
+        unreachable!()
+    };
     let (a, b) = add_both(
         rt,
         &lock,
@@ -113,8 +115,12 @@ fn four_threads<R: Threads + Wait + Sync>(
 {
     let quotas = [10000, 10000, 10000, 10000];
     let (lock, mut passes) = HistLock::create(alloc, new_tally(), &quotas)?;
-    let (Some(d), Some(c)) = (passes.pop(), passes.pop()) else { unreachable!() };
-    let (Some(b), Some(a)) = (passes.pop(), passes.pop()) else { unreachable!() };
+    let (Some(d), Some(c)) = (passes.pop(), passes.pop()) else {
+        unreachable!()
+    };
+    let (Some(b), Some(a)) = (passes.pop(), passes.pop()) else {
+        unreachable!()
+    };
     let (a, b) = (ready(alloc, a)?, ready(alloc, b)?);
     let (c, d) = (ready(alloc, c)?, ready(alloc, d)?);
     let ((a, b), (c, d)) = add_four(rt, &lock, (a, b), (c, d));

@@ -116,7 +116,9 @@ pub fn read_once<R: Wait>(rt: &R, alloc: Global) -> Result<u64, AllocError> {
         most: 1,
     };
     let (lock, mut passes) = HistLock::create(alloc, object, &[0])?;
-    let Some(mut pass) = passes.pop() else { return Err(AllocError) };
+    let Some(mut pass) = passes.pop() else {
+        return Err(AllocError)
+    };
     let sum = lock.look(rt, &mut pass, Read);
     passes.push_reserved(pass);
     let (_, history) = lock.close(passes);

@@ -10,7 +10,7 @@ invariant-loop-i g l = record {
   table : l.seat.table_id ≡ l.fn.seat.table_id;
   deals : IsDealer (bounds_of g.O.Told.home l.terms) l.i (sum (drop l.i l.quotas)) l.seat.me;
   passes : l.passes.items ≡ fresh_passes (site_of l.line.table_id (bounds_of g.O.Told.home l.terms)) 0 (take l.i l.quotas);
-  room : length l.quotas ≤ vec_capacity l.passes
+  room : length l.quotas ≤ vec_capacity l.passes;
 }
 
 -- each pass gets its quota

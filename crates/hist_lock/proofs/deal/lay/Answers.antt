@@ -12,4 +12,4 @@ new-requires g c =
     let journal = c.in_ok-journal.ensures in let slots = c.in_ok-slots.ensures in
     let alone : c.push_reserved.new.self.items ≡ held ∷ [] = c.push_reserved.ensures.items ∙ ap (λ l. l ++ held ∷ []) slots.items in
     subst (λ l. OneLog bounds told.stands told.home (opening (0 ∷ 0 ∷ 0 ∷ []) l (dealer bounds))) (sym alone)
-        (opens bounds told.stands told.home held journal.items c.requires.stands c.requires.home journal.capacity c.requires.small.0 c.requires.small.1)
+    (opens bounds told.stands told.home held journal.items c.requires.stands c.requires.home journal.capacity c.requires.small.0 c.requires.small.1)

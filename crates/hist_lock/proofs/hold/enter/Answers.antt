@@ -17,7 +17,7 @@ returns-clause-entered g c =
     let front : IsFront (own v).seen held.journal.items = subst (λ w. IsFront (own w).seen held.journal.items) view found.front in
     let exact : entries_of (own v).number held.journal.items ≡ (own v).mine = subst (λ w. entries_of (own w).number held.journal.items ≡ (own w).mine) view found.exact in
     let within : (b : Bounds g.row.O-Home.Denot) → v.bounds ≡ Some b → (g.O.Told.home held.object ≡ b.home) × (length held.journal.items + v.left ≤ b.room) × (b.room < 2 ^ 32) × (b.room ≤ vec_capacity held.journal) =
-        λ b e. let w = found.within b (ap (λ u. u.bounds) view ∙ e) in (w.0, omega (arith, ap (λ u. u.left) view), w.2, w.3) in (
+    λ b e. let w = found.within b (ap (λ u. u.bounds) view ∙ e) in (w.0, omega (arith, ap (λ u. u.left) view), w.2, w.3) in (
       held,
       record {
         holds = (ap (λ m. m.0.stage) after, ap (λ m. m.0.claims) after ∙ ap (λ m. own m.0 ∷ []) (sym after), ap (λ m. m.1) after);

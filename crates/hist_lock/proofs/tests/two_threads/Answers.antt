@@ -10,7 +10,7 @@ pub returns-clause-first : goal.returns-clause-first
 returns-clause-first g c =
     let site = c.in_ok-lock.lock in let quota = c.args.quota in let some_two = c.in-Some-Some in
     let popped = two_popped (fresh {E = ℕ} site 0 quota) (fresh site 1 quota) some_two.a some_two.b c.in_ok-lock.passes.items c.pop.new.self.items c.pop-2.new.self.items
-        c.in_ok-lock.ensures.passes some_two.ensures.items some_two.ensures'.items in
+    c.in_ok-lock.ensures.passes some_two.ensures.items some_two.ensures'.items in
     let a = c.add_both-a.result.0 in let b = c.add_both-a.result.1 in let history = c.close-history.result.1.items in let closed = c.close-history.ensures in
     let items : c.push_reserved-2.new.self.items ≡ a.pass ∷ b.pass ∷ [] = c.push_reserved-2.ensures.items ∙ (ap (λ l. l ++ b.pass ∷ []) c.push_reserved.ensures.items ∙ ap (λ l. (l ++ a.pass ∷ []) ++ b.pass ∷ []) popped.2) in
     let P : Standing ℕ ℕ → Type 0 = λ p. IsFront p.seen history in let Q : Standing ℕ ℕ → Type 0 = λ p. entries_of p.number history ≡ p.mine in
@@ -23,7 +23,7 @@ pub returns-clause-second : goal.returns-clause-second
 returns-clause-second g c =
     let site = c.in_ok-lock.lock in let quota = c.args.quota in let some_two = c.in-Some-Some in
     let popped = two_popped (fresh {E = ℕ} site 0 quota) (fresh site 1 quota) some_two.a some_two.b c.in_ok-lock.passes.items c.pop.new.self.items c.pop-2.new.self.items
-        c.in_ok-lock.ensures.passes some_two.ensures.items some_two.ensures'.items in
+    c.in_ok-lock.ensures.passes some_two.ensures.items some_two.ensures'.items in
     let a = c.add_both-a.result.0 in let b = c.add_both-a.result.1 in let history = c.close-history.result.1.items in let closed = c.close-history.ensures in
     let items : c.push_reserved-2.new.self.items ≡ a.pass ∷ b.pass ∷ [] = c.push_reserved-2.ensures.items ∙ (ap (λ l. l ++ b.pass ∷ []) c.push_reserved.ensures.items ∙ ap (λ l. (l ++ a.pass ∷ []) ++ b.pass ∷ []) popped.2) in
     let P : Standing ℕ ℕ → Type 0 = λ p. IsFront p.seen history in let Q : Standing ℕ ℕ → Type 0 = λ p. entries_of p.number history ≡ p.mine in

@@ -12,14 +12,14 @@ pub run-out-requires-clause-can : goal.run-out-requires-clause-can
 run-out-requires-clause-can g c =
     let told = g.O.Told in let turn = g.T.Turn in let pass = c.pass.inside in let bounds = bounds_in told.anywhere pass.seat.me.0 in let entered = c.enter.ensures.entered in let held = entered.0 in
     let may = asks told.stands told.home bounds pass.seat.table_id pass.number pass.left pass.seat.me c.enter.new.seat.me held c.pass.invariant entered.1
-        (turn.can c.args.turn) c.args.pass.now c.pass.view_is c.requires.can in
+    (turn.can c.args.turn) c.args.pass.now c.pass.view_is c.requires.can in
     (held, entered.1.holds, (held.journal.items, entered.1.found.stood, may))
 
 pub note-pass-inside-requires-clause-holds : goal.note-pass-inside-requires-clause-holds
 note-pass-inside-requires-clause-holds g c =
     let told = g.O.Told in let turn = g.T.Turn in let pass = c.pass.inside in let bounds = bounds_in told.anywhere pass.seat.me.0 in let entered = c.enter.ensures.entered in let held = entered.0 in
     let may = asks told.stands told.home bounds pass.seat.table_id pass.number pass.left pass.seat.me c.enter.new.seat.me held c.pass.invariant entered.1
-        (turn.can c.args.turn) c.args.pass.now c.pass.view_is c.requires.can in
+    (turn.can c.args.turn) c.args.pass.now c.pass.view_is c.requires.can in
     let h = entered.1.holds in let ran = c.run-out.ensures.ran held h.2 in let new = ran.0 in let can = turn.can c.args.turn pass.number in let tells = turn.tells c.args.turn pass.number in
     let entry = c.run-out.result.1 in let left = c.requires.left in
     let fits : length (listed entry) ≤ pass.left = omega (arith, listed_few entry, ap (λ p. p.left) c.pass.view_is) in (
@@ -33,7 +33,7 @@ pub leave-requires-clause-whole : goal.leave-requires-clause-whole
 leave-requires-clause-whole g c =
     let told = g.O.Told in let turn = g.T.Turn in let pass = c.pass.inside in let bounds = bounds_in told.anywhere pass.seat.me.0 in let entered = c.enter.ensures.entered in let held = entered.0 in
     let may = asks told.stands told.home bounds pass.seat.table_id pass.number pass.left pass.seat.me c.enter.new.seat.me held c.pass.invariant entered.1
-        (turn.can c.args.turn) c.args.pass.now c.pass.view_is c.requires.can in
+    (turn.can c.args.turn) c.args.pass.now c.pass.view_is c.requires.can in
     let h = entered.1.holds in let ran = c.run-out.ensures.ran held h.2 in let new = ran.0 in let can = turn.can c.args.turn pass.number in let tells = turn.tells c.args.turn pass.number in
     let entry = c.run-out.result.1 in let noted = c.note-pass-inside.ensures.noted new ran.1 in
     whole told.stands told.home bounds pass.seat.table_id pass.number pass.left pass.seat.me c.enter.new.seat.me held c.pass.invariant entered.1 can tells c.run-out.result.0 entry new c.run-out.new.seat.me c.run-out.ensures.view ran.1 ran.2 may noted.0 c.note-pass-inside.new.seat.me noted.1
@@ -42,7 +42,7 @@ pub returns : goal.returns
 returns g c =
     let told = g.O.Told in let turn = g.T.Turn in let pass = c.pass.inside in let bounds = bounds_in told.anywhere pass.seat.me.0 in let entered = c.enter.ensures.entered in let held = entered.0 in
     let may = asks told.stands told.home bounds pass.seat.table_id pass.number pass.left pass.seat.me c.enter.new.seat.me held c.pass.invariant entered.1
-        (turn.can c.args.turn) c.args.pass.now c.pass.view_is c.requires.can in
+    (turn.can c.args.turn) c.args.pass.now c.pass.view_is c.requires.can in
     let h = entered.1.holds in let ran = c.run-out.ensures.ran held h.2 in let new = ran.0 in let can = turn.can c.args.turn pass.number in let tells = turn.tells c.args.turn pass.number in
     let entry = c.run-out.result.1 in let noted = c.note-pass-inside.ensures.noted new ran.1 in let left = c.note-pass-inside.ensures.left in
     let done = turned told.stands told.home bounds pass.seat.table_id pass.number pass.left pass.seat.me c.enter.new.seat.me held c.pass.invariant entered.1 can tells c.run-out.result.0 entry new c.run-out.new.seat.me c.run-out.ensures.view ran.1 ran.2 may noted.0 c.note-pass-inside.new.seat.me noted.1 c.note-pass-inside.result left.0 c.leave.new.seat.me c.leave.ensures.left left.1 in

@@ -12,14 +12,14 @@ pub run-out-requires-clause-can : goal.run-out-requires-clause-can
 run-out-requires-clause-can g c =
     let told = g.O.Told in let turn = g.T.Turn in let pass = c.pass.inside in let bounds = bounds_in told.anywhere pass.seat.me.0 in let entered = c.enter.ensures.entered in let held = entered.0 in
     let may = asks told.stands told.home bounds pass.seat.table_id pass.number pass.left pass.seat.me c.enter.new.seat.me held c.pass.invariant entered.1
-        (turn.can c.args.turn) c.args.pass.now c.pass.view_is c.requires.can in
+    (turn.can c.args.turn) c.args.pass.now c.pass.view_is c.requires.can in
     (held, entered.1.holds, (held.journal.items, entered.1.found.stood, may))
 
 pub leave-requires-clause-whole : goal.leave-requires-clause-whole
 leave-requires-clause-whole g c =
     let told = g.O.Told in let turn = g.T.Turn in let pass = c.pass.inside in let bounds = bounds_in told.anywhere pass.seat.me.0 in let entered = c.enter.ensures.entered in let held = entered.0 in
     let may = asks told.stands told.home bounds pass.seat.table_id pass.number pass.left pass.seat.me c.enter.new.seat.me held c.pass.invariant entered.1
-        (turn.can c.args.turn) c.args.pass.now c.pass.view_is c.requires.can in
+    (turn.can c.args.turn) c.args.pass.now c.pass.view_is c.requires.can in
     let h = entered.1.holds in let said = c.run-out.ensures.ran held h.2 in let new = said.0 in let can = turn.can c.args.turn pass.number in let tells = turn.tells c.args.turn pass.number in
     let ran : HasRun told.stands told.home can tells pass.number held new c.run-out.result.0 None = subst (HasRun told.stands told.home can tells pass.number held new c.run-out.result.0) c.in-None.is said.2 in
     let noted = noted_none new c.run-out.new.seat.me (run_at told.stands told.home bounds pass.seat.table_id pass.number pass.left pass.seat.me c.enter.new.seat.me held c.pass.invariant entered.1 can tells c.run-out.result.0 None new c.run-out.new.seat.me c.run-out.ensures.view said.1 ran) (run_seen told.stands told.home bounds pass.seat.table_id pass.number pass.left pass.seat.me c.enter.new.seat.me held c.pass.invariant entered.1 can tells c.run-out.result.0 None new c.run-out.new.seat.me c.run-out.ensures.view said.1 ran) (ap (λ n. entries_of n (own c.run-out.new.seat.me.0).seen) (run_number told.stands told.home bounds pass.seat.table_id pass.number pass.left pass.seat.me c.enter.new.seat.me held c.pass.invariant entered.1 can tells c.run-out.result.0 None new c.run-out.new.seat.me c.run-out.ensures.view said.1 ran) ∙ run_exact told.stands told.home bounds pass.seat.table_id pass.number pass.left pass.seat.me c.enter.new.seat.me held c.pass.invariant entered.1 can tells c.run-out.result.0 None new c.run-out.new.seat.me c.run-out.ensures.view said.1 ran) in
@@ -29,7 +29,7 @@ pub returns : goal.returns
 returns g c =
     let told = g.O.Told in let turn = g.T.Turn in let pass = c.pass.inside in let bounds = bounds_in told.anywhere pass.seat.me.0 in let entered = c.enter.ensures.entered in let held = entered.0 in
     let may = asks told.stands told.home bounds pass.seat.table_id pass.number pass.left pass.seat.me c.enter.new.seat.me held c.pass.invariant entered.1
-        (turn.can c.args.turn) c.args.pass.now c.pass.view_is c.requires.can in
+    (turn.can c.args.turn) c.args.pass.now c.pass.view_is c.requires.can in
     let h = entered.1.holds in let said = c.run-out.ensures.ran held h.2 in let new = said.0 in let can = turn.can c.args.turn pass.number in let tells = turn.tells c.args.turn pass.number in
     let ran : HasRun told.stands told.home can tells pass.number held new c.run-out.result.0 None = subst (HasRun told.stands told.home can tells pass.number held new c.run-out.result.0) c.in-None.is said.2 in
     let noted = noted_none new c.run-out.new.seat.me (run_at told.stands told.home bounds pass.seat.table_id pass.number pass.left pass.seat.me c.enter.new.seat.me held c.pass.invariant entered.1 can tells c.run-out.result.0 None new c.run-out.new.seat.me c.run-out.ensures.view said.1 ran) (run_seen told.stands told.home bounds pass.seat.table_id pass.number pass.left pass.seat.me c.enter.new.seat.me held c.pass.invariant entered.1 can tells c.run-out.result.0 None new c.run-out.new.seat.me c.run-out.ensures.view said.1 ran) (ap (λ n. entries_of n (own c.run-out.new.seat.me.0).seen) (run_number told.stands told.home bounds pass.seat.table_id pass.number pass.left pass.seat.me c.enter.new.seat.me held c.pass.invariant entered.1 can tells c.run-out.result.0 None new c.run-out.new.seat.me c.run-out.ensures.view said.1 ran) ∙ run_exact told.stands told.home bounds pass.seat.table_id pass.number pass.left pass.seat.me c.enter.new.seat.me held c.pass.invariant entered.1 can tells c.run-out.result.0 None new c.run-out.new.seat.me c.run-out.ensures.view said.1 ran) in

@@ -11,7 +11,7 @@ invariant-loop-i g l = record {
   so_far : l.i + l.pass.left ≡ l.fn.done.pass.left;
   found : l.found.items ≡ sums_before 0 l.fn.done.pass.number l.pass.seen;
   exact : entries_of l.fn.done.pass.number l.pass.seen ≡ l.pass.mine;
-  room : vec_len l.found + l.pass.left ≤ vec_capacity l.found
+  room : vec_len l.found + l.pass.left ≤ vec_capacity l.found;
 }
 
 abbrev pub decreases-loop-i : goal.decreases-loop-i
