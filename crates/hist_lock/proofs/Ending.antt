@@ -1,5 +1,5 @@
 -- What the end of the lock shows, in terms of its passes.
-use Rattle.std.proofs.Common.{◌≡◌, ℕ, List, map, length, All, Contains, ap, sym, ◌∙◌, subst}
+use Rattle.std.proofs.Common.{◌≡◌, ℕ, List, map, length, All, Contains, ap, ◌∙◌, subst}
 use Rattle.std.proofs.lemmas.List.{length-map}
 use Rattle.std.proofs.lemmas.List.Elements.{All-weaker}
 use mathlib.Core.Option.{some}

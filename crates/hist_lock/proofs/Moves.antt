@@ -1,20 +1,18 @@
 -- Each kind of step keeps the rule: one lemma for each.
-use Rattle.std.proofs.Common.{◌≡◌, ◌≢◌, ◌==◌, ◌⊎◌, ℕ, zero, suc, ◌+◌, ◌-◌, ◌%◌, ◌^◌, ◌<◌, ◌≤◌, List, [], ◌∷◌, ◌++◌, map, length, set, get_or, refl, sym, ap, ◌∙◌, subst, inl, inr, ⊎_elim, arith, All, Option, Some, None, vec_capacity, length-append, append_assoc, ne_eqb, eq-eqb, cond}
+use Rattle.std.proofs.Common.{◌≡◌, ◌≢◌, ◌==◌, ◌⊎◌, ℕ, zero, suc, ◌+◌, ◌-◌, ◌%◌, ◌^◌, ◌<◌, ◌≤◌, List, [], ◌∷◌, ◌++◌, map, length, set, get_or, refl, sym, ap, ◌∙◌, subst, inl, inr, ⊎_elim, arith, All, Some, vec_capacity, length-append, append_assoc, ne_eqb, eq-eqb, cond}
 use Rattle.std.proofs.Math.Nat.{mod-add-mod, mod-eq_of_lt}
 use Rattle.std.proofs.lemmas.List.{append-nil, map-append}
-use Rattle.std.proofs.lemmas.List.Sums.{sum_by-cons, sum_by-append, sum_by_push}
-use Rattle.std.proofs.lemmas.List.Elements.{All-nil, All-cons, All-head, All-tail, All-same, All-append, All-push, All-weaker}
+use Rattle.std.proofs.lemmas.List.Elements.{All-nil, All-cons, All-head, All-same, All-push}
 use Rattle.std.proofs.lemmas.List.Elements.{filter-append}
 use Rattle.std.specs.List.{sum_by, range_with_len, filter}
 use mathlib.Core.Logic.{dite}
-use mathlib.Core.List.{IsPrefix}
 use mathlib.Core.Option.{some, none, some-injective, some-ne-none}
 use mathlib.Core.Option as maybe
 use native.Mathlib.Decide.{ℕ_discrete}
 use lib.ListN.{get_elem?}
 use lib.Seq.{set-get_or}
 use Rattle.atomic_table.specs.Table.{State, Me, step, keeps, takes, gives, stepped, Allows, Splits, Joins}
-use Rattle.atomic_table.proofs.Lists.{at_set, set_here, set_else, set_again, at_snoc, at_longer, one_turn}
+use Rattle.atomic_table.proofs.Lists.{set_here, one_turn}
 use Rattle.hist_lock.specs.declared.rule.Held.{Held}
 use Rattle.hist_lock.specs.declared.rule.Bounds.{Bounds}
 use Rattle.hist_lock.specs.declared.rule.Claim.{Claim}
@@ -23,9 +21,9 @@ use Rattle.hist_lock.specs.declared.rule.Stage.TheVariants.{Idle, Waiting, Calle
 use Rattle.hist_lock.specs.declared.rule.View.{View}
 use Rattle.hist_lock.specs.History.{IsFront, entries_of}
 use Rattle.hist_lock.specs.Rule.{drawn, tickets_of, numbers_of, left_of, IsSpread, own, FitsClaim, FitsStage, Fits, IsHome, IsIn, IsOut, OneLog}
-use Rattle.hist_lock.specs.Steps.{at_stage, drew, with_journal, took, raised, spent, joined, dealt_of, dealt_one, newcomer, Sat, IsAt, Draws, Looks, IsFound, Takes, journal_of, Raises, Gives, Serves}
+use Rattle.hist_lock.specs.Steps.{at_stage, drew, with_journal, took, raised, Sat, IsAt, Draws, Looks, Takes, journal_of, Raises, Gives, Serves}
 use Rattle.hist_lock.proofs.Totals.{total_set, run_last, run_first}
-use Rattle.hist_lock.proofs.Keeps.{drawn_waiting, drawn_called, drawn_holding, seats_set, spread_kept, out_kept, in_kept, few, in_line, apart, alone, dealt_number, others_differ, room_at, changed}
+use Rattle.hist_lock.proofs.Keeps.{drawn_waiting, drawn_called, drawn_holding, seats_set, spread_kept, out_kept, in_kept, few, in_line, alone, dealt_number, others_differ, room_at, changed}
 
 -- the words of the table, by place
 abbrev words_of : ℕ → ℕ → ℕ → List ℕ

@@ -1,8 +1,8 @@
 -- The passes of a lock, one after another.
-use Rattle.std.proofs.Common.{◌≡◌, ℕ, zero, suc, ◌+◌, ◌<◌, ◌≤◌, List, [], ◌∷◌, ◌++◌, map, length, get_or, take, All, Some, refl, ap, sym, ◌∙◌, arith}
+use Rattle.std.proofs.Common.{◌≡◌, ℕ, suc, ◌+◌, ◌<◌, ◌≤◌, List, [], ◌∷◌, ◌++◌, map, length, get_or, take, All, Some, refl, ap, ◌∙◌, arith}
 use Rattle.std.proofs.lemmas.List.{take_more, length-take-le}
 use Rattle.std.proofs.lemmas.List.Elements.{All-nil, All-cons, All-head, All-tail, All-pop}
-use Rattle.hist_lock.specs.Passes.{Site, Standing, fresh, fresh_passes}
+use Rattle.hist_lock.specs.Passes.{Site, fresh, fresh_passes}
 
 module _ {X : Type 0} where
   -- what holds of all holds of those before the last one, and of the last

@@ -1,8 +1,8 @@
 -- The rule holds at the start, is kept where seats are split and joined, and says at the end what the lock's close does.
-use Rattle.std.proofs.Common.{◌≡◌, ◌≢◌, ◌==◌, ◌⊎◌, ℕ, zero, suc, ◌+◌, ◌-◌, ◌%◌, ◌^◌, ◌<◌, ◌≤◌, List, [], ◌∷◌, ◌++◌, map, length, set, get_or, refl, sym, ap, ◌∙◌, subst, inl, inr, ⊎_elim, arith, All, Contains, Option, Some, None, unwrap_or, vec_capacity, ne_eqb, cond}
+use Rattle.std.proofs.Common.{◌≡◌, ◌≢◌, ◌==◌, ℕ, zero, suc, ◌+◌, ◌^◌, ◌<◌, ◌≤◌, List, [], ◌∷◌, ◌++◌, map, length, set, refl, sym, ap, ◌∙◌, subst, inl, inr, ⊎_elim, arith, All, Contains, Some, unwrap_or, vec_capacity, ne_eqb, cond}
 use Rattle.std.proofs.lemmas.List.{map-append, length-map}
 use Rattle.std.proofs.lemmas.List.Sums.{sum_by-cons, sum_by-append, sum_by_push}
-use Rattle.std.proofs.lemmas.List.Elements.{All-nil, All-cons, All-head, All-tail, All-same, All-append, All-weaker}
+use Rattle.std.proofs.lemmas.List.Elements.{All-nil, All-cons, All-head, All-tail, All-append, All-weaker}
 use Rattle.std.specs.List.{sum_by, range_with_len, filter}
 use mathlib.Core.Logic.{dite}
 use mathlib.Core.Option.{some, none, some-injective, some-ne-none}
@@ -14,13 +14,12 @@ use Rattle.atomic_table.proofs.Lists.{set_else, at_snoc, at_longer}
 use Rattle.hist_lock.specs.declared.rule.Held.{Held}
 use Rattle.hist_lock.specs.declared.rule.Bounds.{Bounds}
 use Rattle.hist_lock.specs.declared.rule.Claim.{Claim}
-use Rattle.hist_lock.specs.declared.rule.Stage.{Stage}
-use Rattle.hist_lock.specs.declared.rule.Stage.TheVariants.{Idle, Waiting, Called, Holding}
+use Rattle.hist_lock.specs.declared.rule.Stage.TheVariants.{Idle, Holding}
 use Rattle.hist_lock.specs.declared.rule.View.{View}
-use Rattle.hist_lock.specs.History.{IsFront, entries_of}
+use Rattle.hist_lock.specs.History.{entries_of}
 use Rattle.hist_lock.specs.Rule.{drawn, tickets_of, numbers_of, left_of, IsSpread, dealer, own, FitsClaim, FitsStage, Fits, IsHome, IsIn, IsOut, OneLog}
 use Rattle.hist_lock.specs.Steps.{spent, joined, dealt_of, dealt_one, newcomer}
-use Rattle.hist_lock.proofs.Totals.{total_set, total_two, total_none, total_only, mark, mark-same, mark-alone, mark-other, one, total-one, run_one, run_last, run_has}
+use Rattle.hist_lock.proofs.Totals.{total_set, total_two, total_none, total_only, mark, mark-other, one, total-one, run_one, run_last, run_has}
 use Rattle.hist_lock.proofs.Keeps.{seats_set, spread_kept, out_kept, in_kept}
 
 -- a number that stands in a list at all is one of its elements

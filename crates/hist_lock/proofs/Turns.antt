@@ -6,10 +6,10 @@ use Rattle.hist_lock.specs.declared.rule.Held.{Held}
 use Rattle.hist_lock.specs.declared.rule.Bounds.{Bounds}
 use Rattle.hist_lock.specs.declared.rule.Claim.{Claim}
 use Rattle.hist_lock.specs.declared.rule.Stage.TheVariants.{Idle, Holding}
-use Rattle.hist_lock.specs.History.{IsFront, entries_of, listed, told}
-use Rattle.hist_lock.specs.Passes.{Site, Standing, MayMeet, IsTurn}
+use Rattle.hist_lock.specs.History.{entries_of, listed, told}
+use Rattle.hist_lock.specs.Passes.{Standing, MayMeet, IsTurn}
 use Rattle.hist_lock.specs.Rule.{own}
-use Rattle.hist_lock.specs.Steps.{Sat, IsAt, IsFound, at_stage, with_journal}
+use Rattle.hist_lock.specs.Steps.{Sat, IsAt, at_stage, with_journal}
 use Rattle.hist_lock.specs.Seats.{standing_of, IsResting, HasEntered, HasRun, HasNoted}
 use Rattle.hist_lock.proofs.Moves.{entries_of-push}
 

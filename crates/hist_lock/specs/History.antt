@@ -1,5 +1,5 @@
 -- Histories that several passes share.
-use Rattle.std.specs.Prelude.{◌≡◌, ℕ, ◌+◌, ◌==◌, List, [], ◌∷◌, ◌++◌, map, filter, Option, Some, None}
+use Rattle.std.specs.Prelude.{ℕ, ◌==◌, List, [], ◌∷◌, ◌++◌, map, filter, Option, Some, None}
 use mathlib.Core.List.{IsPrefix}
 
 module _ {E : Type 0} where

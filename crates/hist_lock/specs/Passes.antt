@@ -1,5 +1,5 @@
 -- What contracts see of a lock and of a pass, and what one turn does. All of it is this project's own.
-use Rattle.std.specs.Prelude.{◌≡◌, ℕ, ◌+◌, ◌^◌, ◌<◌, ◌≤◌, List, [], ◌∷◌, ◌++◌, length, Option, Some, None}
+use Rattle.std.specs.Prelude.{◌≡◌, ℕ, ◌+◌, ◌^◌, ◌<◌, ◌≤◌, List, [], ◌∷◌, ◌++◌, length, Option}
 use Rattle.atomic_table.specs.Seated.{TableId}
 use Rattle.hist_lock.specs.History.{IsFront, entries_of, listed, told}
 

@@ -1,6 +1,6 @@
 -- The rule of the ticket lock: what its words, its slot and the views of its seats are between any two steps.
 -- Word 0 counts the tickets that were drawn, word 1 those that were served, and word 2 is the length of the history. Slot 0 has the value.
-use Rattle.std.specs.Prelude.{◌≡◌, ◌≢◌, ◌⊎◌, ℕ, ◌+◌, ◌%◌, ◌^◌, ◌<◌, ◌≤◌, List, [], ◌∷◌, map, length, All, Option, Some, None, vec_capacity}
+use Rattle.std.specs.Prelude.{◌≡◌, ◌≢◌, ◌⊎◌, ℕ, ◌+◌, ◌%◌, ◌^◌, ◌<◌, ◌≤◌, List, [], ◌∷◌, map, length, All, Some, vec_capacity}
 use Rattle.std.specs.List.{sum_by, range_with_len}
 use mathlib.Core.Option.{some}
 use lib.ListN.{get_elem?}

@@ -1,6 +1,5 @@
 -- A seat of the lock's table between its steps.
-use Rattle.std.specs.Prelude.{◌≡◌, ℕ, ◌+◌, ◌-◌, ◌<◌, ◌≤◌, List, [], ◌∷◌, ◌++◌, map, length, Option, Some, None, unwrap_or, vec_capacity}
-use Rattle.atomic_table.specs.Table.{Me}
+use Rattle.std.specs.Prelude.{◌≡◌, ℕ, List, [], ◌∷◌, map, Option, Some, unwrap_or, vec_capacity}
 use Rattle.atomic_table.specs.Seated.{TableId}
 use Rattle.atomic_table.specs.declared.shared.Seat.{Seat}
 use Rattle.hist_lock.specs.declared.rule.Held.{Held}
@@ -8,7 +7,7 @@ use Rattle.hist_lock.specs.declared.rule.Bounds.{Bounds}
 use Rattle.hist_lock.specs.declared.rule.Claim.{Claim}
 use Rattle.hist_lock.specs.declared.rule.Stage.TheVariants.{Idle, Holding}
 use Rattle.hist_lock.specs.declared.rule.View.{View}
-use Rattle.hist_lock.specs.History.{IsFront, entries_of, told}
+use Rattle.hist_lock.specs.History.{entries_of, told}
 use Rattle.hist_lock.specs.Passes.{Site, Standing}
 use Rattle.hist_lock.specs.Rule.{own}
 use Rattle.hist_lock.specs.Steps.{Sat, IsAt, IsFound, with_journal}

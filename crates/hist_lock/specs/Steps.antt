@@ -1,5 +1,5 @@
 -- What each step of the lock tells the seat that makes it.
-use Rattle.std.specs.Prelude.{◌≡◌, ◌≢◌, ℕ, ◌+◌, ◌-◌, ◌%◌, ◌^◌, ◌<◌, ◌≤◌, List, [], ◌∷◌, ◌++◌, length, Option, Some, None, unwrap_or, vec_capacity}
+use Rattle.std.specs.Prelude.{◌≡◌, ◌≢◌, ℕ, ◌+◌, ◌-◌, ◌%◌, ◌^◌, ◌<◌, ◌≤◌, List, [], ◌∷◌, ◌++◌, length, Some, None, unwrap_or, vec_capacity}
 use Rattle.atomic_table.specs.Table.{Me, Step, rest}
 use Rattle.hist_lock.specs.declared.rule.Held.{Held}
 use Rattle.hist_lock.specs.declared.rule.Bounds.{Bounds}

@@ -1,5 +1,5 @@
 -- The object of the crate's own tests: a sum that several threads add to.
-use Rattle.std.specs.Prelude.{◌≡◌, ◌==◌, ℕ, ◌+◌, ◌^◌, ◌<◌, ◌≤◌, List, [], ◌∷◌, length, All, Option, Some, None, if◌then◌else◌}
+use Rattle.std.specs.Prelude.{◌≡◌, ◌==◌, ℕ, ◌+◌, ◌^◌, ◌<◌, ◌≤◌, List, [], ◌∷◌, length, All, if◌then◌else◌}
 use Rattle.std.specs.List.{sum_by}
 use Rattle.hist_lock.specs.History.{entries_of}
 use Rattle.hist_lock.specs.Passes.{Site, Standing}

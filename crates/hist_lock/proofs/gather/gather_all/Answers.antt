@@ -1,4 +1,4 @@
-use Rattle.std.proofs.Common.{◌≡◌, ◌∷◌, ◌++◌, [], ap, ◌∙◌, All, append_assoc}
+use Rattle.std.proofs.Common.{◌≡◌, ◌∷◌, ◌++◌, [], ap, ◌∙◌, append_assoc}
 use Rattle.hist_lock.specs.Passes.{Standing}
 use Rattle.hist_lock.proofs.Passes.{All-last}
 use Rattle.hist_lock.proofs.gather.gather_all.Goals as goal

@@ -3,7 +3,7 @@ use Rattle.hist_lock.specs.declared.rule.Stage.TheVariants.{Called}
 use Rattle.hist_lock.specs.declared.rule.Bounds.{Bounds}
 use Rattle.hist_lock.specs.History.{IsFront, entries_of}
 use Rattle.hist_lock.specs.Rule.{own}
-use Rattle.hist_lock.specs.Steps.{at_stage, drew, took}
+use Rattle.hist_lock.specs.Steps.{at_stage, took}
 use Rattle.hist_lock.proofs.hold.enter.Goals as goal
 
 pub returns-clause-entered : goal.returns-clause-entered

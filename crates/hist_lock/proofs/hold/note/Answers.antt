@@ -1,6 +1,6 @@
-use Rattle.std.proofs.Common.{◌≡◌, ◌∷◌, ◌++◌, [], ap, sym, ◌∙◌, subst, refl, length, arith, Some, None}
+use Rattle.std.proofs.Common.{◌≡◌, ◌∷◌, ◌++◌, [], ap, sym, ◌∙◌, subst, length, arith}
 use Rattle.hist_lock.specs.History.{entries_of, listed, told}
-use Rattle.hist_lock.specs.Steps.{raised, journal_of, with_journal}
+use Rattle.hist_lock.specs.Steps.{raised, journal_of}
 use Rattle.hist_lock.specs.Rule.{own}
 use Rattle.hist_lock.specs.Seats.{HasNoted}
 use Rattle.hist_lock.proofs.Hands.{in_hand, only_hand}

@@ -1,4 +1,4 @@
-use Rattle.std.proofs.Common.{◌≡◌, ◌∷◌, [], refl, ap, subst}
+use Rattle.std.proofs.Common.{◌≡◌, ◌∷◌, refl, ap, subst}
 use Rattle.atomic_table.specs.Table.{rest}
 use Rattle.hist_lock.specs.Seats.{HasRun}
 use Rattle.hist_lock.specs.declared.rule.Held.{Held}

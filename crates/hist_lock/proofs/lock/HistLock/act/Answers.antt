@@ -1,10 +1,10 @@
-use Rattle.std.proofs.Common.{◌≡◌, ◌+◌, ◌≤◌, length, ap, sym, ◌∙◌, subst, arith, Option, Some, None, unwrap_or}
+use Rattle.std.proofs.Common.{◌≡◌, ◌≤◌, length, ap, sym, ◌∙◌, subst, arith, unwrap_or}
 use Rattle.hist_lock.specs.declared.rule.Bounds.{Bounds}
 use Rattle.hist_lock.specs.History.{listed}
 use Rattle.atomic_table.specs.Seated.{TableId}
 use Rattle.hist_lock.specs.Passes.{Standing, IsTurn}
 use Rattle.hist_lock.specs.Rule.{own}
-use Rattle.hist_lock.specs.Seats.{HasRun, bounds_in, standing_of}
+use Rattle.hist_lock.specs.Seats.{bounds_in, standing_of}
 use Rattle.hist_lock.proofs.Turns.{asks, listed_few, run_at, run_seen, run_room, whole, turned, rests}
 use Rattle.hist_lock.proofs.lock.HistLock.act.Goals as goal
 

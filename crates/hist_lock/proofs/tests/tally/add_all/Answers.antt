@@ -1,4 +1,4 @@
-use Rattle.std.proofs.Common.{◌≡◌, ◌+◌, ◌++◌, ◌∷◌, [], length, ap, sym, ◌∙◌, subst, arith, Some}
+use Rattle.std.proofs.Common.{◌≡◌, ◌+◌, ◌++◌, ◌∷◌, [], length, ap, sym, ◌∙◌, arith, Some}
 use Rattle.hist_lock.specs.History.{listed, told, entries_of}
 use Rattle.hist_lock.specs.Tally.{sum_of, sums_before}
 use Rattle.hist_lock.proofs.Tallies.{sums_before-own, same_before}
