@@ -1,0 +1,121 @@
+//! What a pass does from the ticket to the next one's: it waits, takes the value, has the turn run, notes the entry, and gives the value back.
+ghost use Rattle.std.specs.Prelude.{◌≡◌, ◌≢◌, ℕ, ◌+◌, ◌-◌, ◌%◌, ◌^◌, ◌<◌, ◌≤◌, List, [], ◌∷◌, ◌++◌, length, vec_capacity, Option, Some};
+ghost use Rattle.hist_lock.specs.declared.rule.Held.{Held};
+ghost use Rattle.hist_lock.specs.declared.rule.Bounds.{Bounds};
+ghost use Rattle.hist_lock.specs.declared.rule.Stage.TheVariants.{Idle, Waiting, Called, Holding};
+ghost use Rattle.hist_lock.specs.History.{entries_of, listed};
+ghost use Rattle.hist_lock.specs.Rule.{own};
+ghost use Rattle.hist_lock.specs.Steps.{IsAt, at_stage};
+ghost use Rattle.hist_lock.specs.Seats.{IsOf, IsSameSeat, HasEntered, HasRun, HasNoted};
+
+use crate::rule::{Line, Place};
+use crate::steps::{SERVED, TICKETS, draw, give, look, raise, serve, take};
+use crate::told::{Told, Turn};
+use crossbeam_utils::Backoff;
+use std::sync::Wait;
+
+// Waits until the ticket is served: a short while on the processor, and then asleep.
+fn wait_for<O: Told, R: Wait>(rt: &R, line: &Line<O>, seat: &mut Place<O>, ticket: u64)
+    requires of { IsOf seat.old.table_id line.now.table_id }
+    requires waits { IsAt Waiting [] seat.old.me }
+    requires ticket { ticket ≡ seat.old.me.0.ticket % 2 ^ 64 }
+    ensures same { IsSameSeat seat.old seat.new }
+    ensures called { seat.new.me ≡ (at_stage Called seat.old.me.0, []) }
+{
+    let backoff = Backoff::new();
+    for _ in rt.forever() {
+        let served = look(line, seat);
+        if served == ticket {
+            return;
+        }
+        if backoff.is_completed() {
+            line.park(rt, SERVED, (served & 0xffff_ffff) as u32);
+        } else {
+            backoff.snooze();
+        }
+    }
+    unreachable!()
+}
+
+/// Waits for the value and takes it.
+pub fn enter<O: Told, R: Wait>(rt: &R, line: &Line<O>, seat: &mut Place<O>)
+    requires of { IsOf seat.old.table_id line.now.table_id }
+    requires idle { IsAt Idle [] seat.old.me }
+    ensures same { IsSameSeat seat.old seat.new }
+    ensures entered { (held : Held O O.Entry) × HasEntered O.stands O.home seat.old.me.0 held seat.new.me }
+{
+    let ticket = draw(line, seat);
+    wait_for(rt, line, seat, ticket);
+    take(line, seat);
+}
+
+/// Has the turn run on the object in hand.
+pub fn run<O: Told, T: Turn<O>>(
+    line: &Line<O>,
+    seat: &mut Place<O>,
+    who: u32,
+    turn: T,
+) -> (T::Out, Option<O::Entry>)
+    requires of { IsOf seat.old.table_id line.now.table_id }
+    requires can { (held : Held O O.Entry) × IsAt Holding ((0, held) ∷ []) seat.old.me × ((h : List (ℕ × O.Entry)) × O.stands held.object h × T.can turn who (O.home held.object) h) }
+    ensures same { IsSameSeat seat.old seat.new }
+    ensures view { seat.new.me.0 ≡ seat.old.me.0 }
+    ensures ran { (old : Held O O.Entry) (rest : seat.old.me.1 ≡ (0, old) ∷ []) → (new : Held O O.Entry) × (seat.new.me.1 ≡ (0, new) ∷ []) × HasRun O.stands O.home (T.can turn who) (T.tells turn who) who old new result.0 result.1 }
+{
+    let held = seat.slot_mut(line, 0);
+    turn.run(who, &mut held.object)
+}
+
+// Writes the entry at the end of the journal.
+fn push<O: Told>(line: &Line<O>, seat: &mut Place<O>, who: u32, entry: O::Entry)
+    requires of { IsOf seat.old.table_id line.now.table_id }
+    requires room { (held : Held O O.Entry) × (seat.old.me.1 ≡ (0, held) ∷ []) × (length held.journal.items < vec_capacity held.journal) }
+    ensures same { IsSameSeat seat.old seat.new }
+    ensures view { seat.new.me.0 ≡ seat.old.me.0 }
+    ensures pushed { (old : Held O O.Entry) → seat.old.me.1 ≡ (0, old) ∷ [] → (new : Held O O.Entry) × (seat.new.me.1 ≡ (0, new) ∷ []) × (new.object ≡ old.object) × (new.journal.items ≡ old.journal.items ++ (who, entry) ∷ []) × (vec_capacity new.journal ≡ vec_capacity old.journal) }
+{
+    let held = seat.slot_mut(line, 0);
+    held.journal.push_reserved((who, entry));
+}
+
+/// Notes the entry, if the turn made one. Answers how many the pass may still make.
+pub fn note<O: Told>(
+    line: &Line<O>,
+    seat: &mut Place<O>,
+    who: u32,
+    left: u32,
+    entry: Option<O::Entry>,
+) -> u32
+    requires of { IsOf seat.old.table_id line.now.table_id }
+    requires holds { (held : Held O O.Entry) × IsAt Holding ((0, held) ∷ []) seat.old.me × (held.journal.items ≡ (own seat.old.me.0).seen) × (length held.journal.items + length (listed entry) ≤ vec_capacity held.journal) }
+    requires who { (own seat.old.me.0).number ≡ who }
+    requires exact { entries_of who (own seat.old.me.0).seen ≡ (own seat.old.me.0).mine }
+    requires left { (left ≡ seat.old.me.0.left) × (length (listed entry) ≤ left) }
+    ensures same { IsSameSeat seat.old seat.new }
+    ensures left { (result + length (listed entry) ≡ left) × (seat.new.me.0.left ≡ result) }
+    ensures noted { (old : Held O O.Entry) → seat.old.me.1 ≡ (0, old) ∷ [] → (new : Held O O.Entry) × HasNoted entry old new seat.old.me.0 seat.new.me }
+{
+    match entry {
+        Some(entry) => {
+            push(line, seat, who, entry);
+            raise(line, seat);
+            left - 1
+        }
+        None => left,
+    }
+}
+
+/// Gives the value back and lets the next ticket be served. Who sleeps is woken; who draws a ticket after the look at the
+/// tickets finds itself served, or waits for one who will wake it.
+pub fn leave<O: Told>(line: &Line<O>, seat: &mut Place<O>)
+    requires of { IsOf seat.old.table_id line.now.table_id }
+    requires whole { (held : Held O O.Entry) × (b : Bounds O.Home) × IsAt Holding ((0, held) ∷ []) seat.old.me × (seat.old.me.0.bounds ≡ Some b) × (held.journal.items ≡ (own seat.old.me.0).seen) × O.stands held.object held.journal.items × (O.home held.object ≡ b.home) × (b.room ≤ vec_capacity held.journal) }
+    ensures same { IsSameSeat seat.old seat.new }
+    ensures left { seat.new.me ≡ (at_stage Idle seat.old.me.0, []) }
+{
+    give(line, seat);
+    let served = serve(line, seat);
+    if line.peek(TICKETS) != served.wrapping_add(1) {
+        line.wake_all(SERVED);
+    }
+}
