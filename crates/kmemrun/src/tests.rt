@@ -61,25 +61,27 @@ fn worked_rows(rt: HostRuntime) -> Result<(), Fail> {
     Ok(())
 }
 
+/// Words without a plan, before any input is read.
+fn refused<T: Wait + Threads + Sync>(rt: &T, alloc: Global, words: &[&str]) -> Result<bool, Fail> {
+    let ran = run_in_memory(rt, alloc, words, b"1 put a x\n")?;
+    let told = ran.err.bytes() == b"kmemrun: usage\n".as_slice();
+    Ok(ran.status == Status::Usage && told && ran.out.bytes().is_empty())
+}
+
 #[test]
 fn usage(rt: HostRuntime) -> Result<(), Fail> {
-    let two: [&str; 2] = ["one", "2"];
-    let four = ["one", "2", "2", "-1"];
     let lists = [
-        ["one", "0", "2"].as_slice(),
-        two.as_slice(),
-        ["one", "02", "2"].as_slice(),
-        ["one", "4096", "64"].as_slice(),
-        ["two", "2", "2"].as_slice(),
-        four.as_slice(),
-        [].as_slice(),
+        ["one", "0", "2"],
+        ["one", "02", "2"],
+        ["one", "4096", "64"],
+        ["two", "2", "2"],
     ];
     for words in lists {
-        let ran = run_in_memory(&rt, rt.alloc(), words, b"1 put a x\n")?;
-        assert_eq!(rt; ran.status, Status::Usage);
-        assert_eq!(rt; ran.err.bytes(), b"kmemrun: usage\n".as_slice());
-        assert!(rt; ran.out.bytes().is_empty());
+        assert!(rt; refused(&rt, rt.alloc(), words.as_slice())?, "at {words:?}");
     }
+    assert!(rt; refused(&rt, rt.alloc(), &["one", "2"])?);
+    assert!(rt; refused(&rt, rt.alloc(), &["one", "2", "2", "-1"])?);
+    assert!(rt; refused(&rt, rt.alloc(), &[])?);
     Ok(())
 }
 
