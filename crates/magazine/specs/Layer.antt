@@ -1,4 +1,4 @@
--- The magazine layer of one worker (Bonwick and Adams 2001; that previous is always full or empty is kmem.c's rule).
+-- The magazine layer of one worker (Bonwick and Adams 2001; magazines of 8 rounds, and that previous is always full or empty, are this project's own).
 use Rattle.std.specs.Prelude.{◌≡◌, ◌<◌, ◌≤◌, nat_lt, if◌then◌else◌, List, [], ◌∷◌, ◌++◌, length, Option, Some, None, Result, Ok, Err, refl}
 use Rattle.std.specs.Coded.{Coded, code_by, coded×, coded_list}
 
