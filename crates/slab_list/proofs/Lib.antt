@@ -1,0 +1,5 @@
+pub mod Rows
+pub mod Steps
+pub mod Whole
+pub mod Found
+pub mod Choices

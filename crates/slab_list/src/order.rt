@@ -1,0 +1,306 @@
+//! The order in which slabs serve, and the choices by it.
+ghost use Rattle.std.specs.Prelude.{◌≡◌, ◌<◌, ◌*◌, ◌+◌, ◌/◌, ◌%◌, ◌&&◌, ◌==◌, ◌||◌, not, nat_lt, ℕ, Bool, true, false, All, ◌↔◌, Option, Some, None, IfSome, is_some, length, option_map, slice_index_or, if◌then◌else◌};
+ghost use Rattle.kmem_model.specs.CacheState.{SlabState, slab_at, is_listed, is_dead, used, free_buffers, is_out_on};
+ghost use Rattle.kmem_model.specs.CacheOrder.{least_below, foremost, is_the, is_partial, is_marked, is_fuller, comes_before, first_partial, least_free, first_of_slab, is_reclaimable, least_to_move, last_reclaimable};
+ghost use Rattle.slab_list.specs.Slabs.{IsWhole, IsFree, slab_with, is_out_in, free_next, is_unused, mode_of};
+ghost use Rattle.slab_list.specs.Search.{goes_before};
+
+use crate::list::SlabList;
+use kmem_buf::Kind;
+use kmem_model::law_order;
+
+// What a scan may ask about.
+#[derive(Clone, Copy)]
+struct Rule {
+    numer: u32,
+    desperate: bool,
+    // The first partial slab, which is left out.
+    first: Option<u32>,
+}
+
+impl<K: Kind> SlabList<K> {
+    /// The buffer that serves next: the least free one of the first partial slab, or else of the least listed slab with no buffer out.
+    pub fn first_free(&self) -> Option<u32>
+        ensures free { result ≡ free_next self.now }
+        ensures room { IfSome result (IsFree self.now) }
+        ensures none { (result ≡ None) ↔ All (λ slab. is_listed slab ≡ true → free_buffers slab ≡ 0) self.now.slabs }
+    {
+        law_order();
+        match self.first_partial() {
+            Some(slab) => self.least_free(slab),
+            None => self.first_unused(),
+        }
+    }
+
+    /// The buffer that a scan would have moved next: the least that can be, of the last slab that has one. Those are left out whose entry in `skip` is true.
+    /// A mild scan takes only slabs without a mark, with one buffer out or with less than `numer` eighths of them out.
+    pub fn last_reclaimable(&self, numer: u32, desperate: bool, skip: &[bool]) -> Option<u32>
+        requires { length skip.now ≡ length self.now.cells }
+        ensures choice { result ≡ last_reclaimable self.now.chunks numer (mode_of desperate) (λ b. slice_index_or skip.now b false) self.now.slabs }
+        ensures out { IfSome result (λ b. (b < length self.now.cells) × (is_out_in self.now b ≡ true)) }
+    {
+        let rule = Rule {
+            numer,
+            desperate,
+            first: self.first_partial(),
+        };
+        let slab = self.last_to_ask(rule, skip)?;
+        self.least_to_move(rule, skip, slab)
+    }
+
+    /// The number of the least dead slab.
+    pub fn first_dead(&self) -> Option<u32>
+        ensures { result ≡ least_below (length self.now.slabs) (λ i. is_dead (slab_at self.now.slabs i)) }
+    {
+        law_order();
+        for slab in 0..self.slabs() {
+            if self.is_dead(slab) {
+                return Some(slab);
+            }
+        }
+        None
+    }
+
+    fn number(&self, slab: u32, index: u32) -> u32
+        requires slab { slab < length self.now.slabs }
+        requires index { index < self.now.chunks }
+        ensures number { result ≡ slab * self.now.chunks + index }
+        ensures place { (result / self.now.chunks ≡ slab) × (result % self.now.chunks ≡ index) }
+        ensures range { result < length self.now.cells }
+    {
+        slab * self.chunks() + index
+    }
+
+    fn is_out_at(&self, slab: u32, index: u32) -> bool
+        requires slab { slab < length self.now.slabs }
+        requires index { index < self.now.chunks }
+        ensures { result ≡ is_out_on (slab_at self.now.slabs slab) index }
+    {
+        self.is_out(self.number(slab, index))
+    }
+
+    fn is_partial(&self, slab: u32) -> bool
+        requires { slab < length self.now.slabs }
+        ensures { result ≡ is_partial (slab_at self.now.slabs slab) }
+    {
+        let used = self.used(slab);
+        let chunks = self.chunks();
+        self.is_listed(slab) && 0 < used && used < chunks
+    }
+
+    fn is_marked(&self, slab: u32) -> bool
+        requires { slab < length self.now.slabs }
+        ensures { result ≡ is_marked (slab_at self.now.slabs slab) }
+    {
+        self.stuck(slab).is_some()
+    }
+
+    fn is_fuller(&self, slab: u32, other: u32) -> bool
+        requires slab { slab < length self.now.slabs }
+        requires other { other < length self.now.slabs }
+        ensures { result ≡ is_fuller (slab_at self.now.slabs slab) slab (slab_at self.now.slabs other) other }
+    {
+        let used = self.used(slab);
+        let others = self.used(other);
+        others < used || (used == others && slab < other)
+    }
+
+    // Marked slabs come first, and then the fuller ones.
+    fn comes_before(&self, slab: u32, other: u32) -> bool
+        requires slab { slab < length self.now.slabs }
+        requires other { other < length self.now.slabs }
+        ensures { result ≡ comes_before self.now.slabs slab other }
+    {
+        let is_marked = self.is_marked(slab);
+        if is_marked != self.is_marked(other) {
+            return is_marked;
+        }
+        self.is_fuller(slab, other)
+    }
+
+    fn first_partial(&self) -> Option<u32>
+        ensures first { result ≡ first_partial self.now.slabs }
+        ensures range { IfSome result (λ slab. slab < length self.now.slabs) }
+        ensures whole { IsWhole self.now }
+    {
+        law_order();
+        let mut first = None;
+        for slab in 0..self.slabs() {
+            first = self.first_with(first, slab);
+        }
+        first
+    }
+
+    // The first partial slab of those so far, with one more.
+    fn first_with(&self, found: Option<u32>, slab: u32) -> Option<u32>
+        requires found { IfSome found (λ other. other < length self.now.slabs) }
+        requires slab { slab < length self.now.slabs }
+        ensures { result ≡ (if goes_before (comes_before self.now.slabs) slab found && is_partial (slab_at self.now.slabs slab) then Some slab else found) }
+    {
+        if self.is_before(slab, found) && self.is_partial(slab) {
+            Some(slab)
+        } else {
+            found
+        }
+    }
+
+    // Whether the slab comes before the one that was found, if one was.
+    fn is_before(&self, slab: u32, found: Option<u32>) -> bool
+        requires slab { slab < length self.now.slabs }
+        requires found { IfSome found (λ other. other < length self.now.slabs) }
+        ensures { result ≡ goes_before (comes_before self.now.slabs) slab found }
+    {
+        match found {
+            Some(other) => self.comes_before(slab, other),
+            None => true,
+        }
+    }
+
+    // The least free buffer of the slab.
+    fn least_free(&self, slab: u32) -> Option<u32>
+        requires { slab < length self.now.slabs }
+        ensures least { result ≡ option_map (λ k. slab * self.now.chunks + k) (least_free (slab_at self.now.slabs slab)) }
+        ensures room { IfSome result (λ b. (slab_with self.now b ≡ slab_at self.now.slabs slab) × (is_out_in self.now b ≡ false)) }
+    {
+        law_order();
+        for index in 0..self.chunks() {
+            if !self.is_out_at(slab, index) {
+                return Some(self.number(slab, index));
+            }
+        }
+        None
+    }
+
+    // The first buffer of the least listed slab with no buffer out.
+    fn first_unused(&self) -> Option<u32>
+        ensures first { result ≡ first_of_slab self.now.chunks self.now.slabs is_unused }
+        ensures room { IfSome result (IsFree self.now) }
+    {
+        law_order();
+        for slab in 0..self.slabs() {
+            if self.is_unused(slab) {
+                return Some(self.number(slab, 0));
+            }
+        }
+        None
+    }
+
+    fn is_unused(&self, slab: u32) -> bool
+        requires { slab < length self.now.slabs }
+        ensures { result ≡ is_unused (slab_at self.now.slabs slab) }
+    {
+        self.is_listed(slab) && self.used(slab) == 0
+    }
+}
+
+// The choice of a scan.
+impl<K: Kind> SlabList<K> {
+    // The last slab with a buffer that can be moved.
+    fn last_to_ask(&self, rule: Rule, skip: &[bool]) -> Option<u32>
+        requires first { rule.first ≡ first_partial self.now.slabs }
+        requires skip { length skip.now ≡ length self.now.cells }
+        ensures last { result ≡ foremost (length self.now.slabs) (λ i. is_some (least_to_move self.now.chunks rule.numer (mode_of rule.desperate) (λ b. slice_index_or skip.now b false) self.now.slabs i)) (λ j i. comes_before self.now.slabs i j) }
+        ensures range { IfSome result (λ slab. slab < length self.now.slabs) }
+    {
+        law_order();
+        let mut last = None;
+        for slab in 0..self.slabs() {
+            last = self.last_with(rule, skip, last, slab);
+        }
+        last
+    }
+
+    // The last such slab of those so far, with one more.
+    fn last_with(&self, rule: Rule, skip: &[bool], found: Option<u32>, slab: u32) -> Option<u32>
+        requires first { rule.first ≡ first_partial self.now.slabs }
+        requires skip { length skip.now ≡ length self.now.cells }
+        requires found { IfSome found (λ other. other < length self.now.slabs) }
+        requires slab { slab < length self.now.slabs }
+        ensures { result ≡ (if goes_before (λ j i. comes_before self.now.slabs i j) slab found && is_some (least_to_move self.now.chunks rule.numer (mode_of rule.desperate) (λ b. slice_index_or skip.now b false) self.now.slabs slab) then Some slab else found) }
+    {
+        if self.is_after(slab, found) && self.least_to_move(rule, skip, slab).is_some() {
+            Some(slab)
+        } else {
+            found
+        }
+    }
+
+    // Whether the slab comes after the one that was found, if one was.
+    fn is_after(&self, slab: u32, found: Option<u32>) -> bool
+        requires slab { slab < length self.now.slabs }
+        requires found { IfSome found (λ other. other < length self.now.slabs) }
+        ensures { result ≡ goes_before (λ j i. comes_before self.now.slabs i j) slab found }
+    {
+        match found {
+            Some(other) => self.comes_before(other, slab),
+            None => true,
+        }
+    }
+
+    // The least buffer of the slab that can be moved.
+    fn least_to_move(&self, rule: Rule, skip: &[bool], slab: u32) -> Option<u32>
+        requires first { rule.first ≡ first_partial self.now.slabs }
+        requires skip { length skip.now ≡ length self.now.cells }
+        requires slab { slab < length self.now.slabs }
+        ensures least { result ≡ option_map (λ k. slab * self.now.chunks + k) (least_to_move self.now.chunks rule.numer (mode_of rule.desperate) (λ b. slice_index_or skip.now b false) self.now.slabs slab) }
+        ensures out { IfSome result (λ b. (b < length self.now.cells) × (is_out_in self.now b ≡ true)) }
+    {
+        law_order();
+        if !self.may_ask(rule, slab) {
+            return None;
+        }
+        for place in 0..self.chunks() {
+            if self.is_left(skip, slab, place) {
+                return Some(self.number(slab, place));
+            }
+        }
+        None
+    }
+
+    // Whether the buffer is out, and is not to be skipped.
+    fn is_left(&self, skip: &[bool], slab: u32, index: u32) -> bool
+        requires skip { length skip.now ≡ length self.now.cells }
+        requires slab { slab < length self.now.slabs }
+        requires index { index < self.now.chunks }
+        ensures { result ≡ (is_out_on (slab_at self.now.slabs slab) index && not (slice_index_or skip.now (slab * self.now.chunks + index) false)) }
+    {
+        let number = self.number(slab, index);
+        self.is_out_at(slab, index) && !skip[number as usize]
+    }
+
+    fn may_ask(&self, rule: Rule, slab: u32) -> bool
+        requires first { rule.first ≡ first_partial self.now.slabs }
+        requires slab { slab < length self.now.slabs }
+        ensures { result ≡ (is_reclaimable self.now.chunks rule.numer (mode_of rule.desperate) (slab_at self.now.slabs slab) && not (is_the (first_partial self.now.slabs) slab)) }
+    {
+        self.is_reclaimable(rule.numer, rule.desperate, slab) && !is_this(rule.first, slab)
+    }
+
+    fn is_reclaimable(&self, numer: u32, desperate: bool, slab: u32) -> bool
+        requires { slab < length self.now.slabs }
+        ensures { result ≡ is_reclaimable self.now.chunks numer (mode_of desperate) (slab_at self.now.slabs slab) }
+    {
+        if desperate {
+            return self.is_partial(slab);
+        }
+        self.is_partial(slab) && !self.is_marked(slab) && self.is_sparse(numer, slab)
+    }
+
+    fn is_sparse(&self, numer: u32, slab: u32) -> bool
+        requires { slab < length self.now.slabs }
+        ensures { result ≡ (used (slab_at self.now.slabs slab) == 1 || nat_lt (8 * used (slab_at self.now.slabs slab)) (self.now.chunks * numer)) }
+    {
+        let used = self.used(slab);
+        used == 1 || 8 * u64::from(used) < u64::from(self.chunks()) * u64::from(numer)
+    }
+}
+
+// Whether a number is there, and is this one.
+fn is_this(number: Option<u32>, other: u32) -> bool
+    ensures { result ≡ is_the number other }
+{
+    match number {
+        Some(number) => number == other,
+        None => false,
+    }
+}
