@@ -1,4 +1,5 @@
 pub mod Rows
-pub mod Cuts
 pub mod Places
 pub mod Digits
+pub mod Parts
+pub mod LaidOut

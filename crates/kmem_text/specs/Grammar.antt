@@ -1,6 +1,6 @@
 -- The script grammar: how an input is cut into lines and tokens, what a line spells or its first fault, and the script of an input.
-use Rattle.std.specs.Prelude.{◌≡◌, ◌==◌, ◌<◌, ℕ, true, List, [], ◌∷◌, length, map, codes, Option, Some, None, Result, Ok, Err, if◌then◌else◌}
-use Rattle.std.specs.Option.{option_map}
+use Rattle.std.specs.Prelude.{◌≡◌, ◌==◌, ◌||◌, ◌+◌, ◌<◌, ℕ, Bool, true, false, not, nat_lt, slice_index, filter, List, [], ◌∷◌, length, map, codes, Option, Some, None, Result, Ok, Err, if◌then◌else◌}
+use Rattle.std.specs.Str.Lines.{strip_carriage_return}
 use Rattle.std.specs.List.{slice_split, flat_map, fold, list_any, position_or_len}
 use Rattle.std.specs.Str.{bytes_eq}
 use Rattle.std.specs.Cmp.Lexicographic.{slice_cmp}
@@ -37,9 +37,17 @@ name_of token = if is_name token then Ok token else Err fault.Name
 abbrev pub value_of : List ℕ → Result (List ℕ) LineFault
 value_of token = if is_value token then Ok token else Err fault.Value
 
--- the tokens of a line, which single spaces separate
+-- a space or a tab
+abbrev pub is_blank : ℕ → Bool
+is_blank byte = byte == 32 || byte == 9
+
+-- the parts of a line between blanks, but for empty ones
+abbrev pub tokens_in : List ℕ → List (List ℕ)
+tokens_in line = filter (λ token. nat_lt 0 (length token)) (slice_split is_blank line)
+
+-- the tokens of a line, without one carriage return at its end
 abbrev pub tokens_of : List ℕ → List (List ℕ)
-tokens_of line = slice_split (λ byte. byte == 32) line
+tokens_of line = tokens_in (strip_carriage_return line)
 
 -- the tokens after the word `put`
 abbrev pub put_of : List (List ℕ) → Result Spelled LineFault
@@ -76,17 +84,44 @@ line_of workers (worker ∷ tokens) = do
   c ← command_of tokens
   Ok (record { worker = w; command = c })
 
--- the first line and the others, where none has a fault
-abbrev pub and_others : Result SpelledLine LineFault → Option (List SpelledLine) → Option (List SpelledLine)
-and_others (Ok first) (Some others) = Some (first ∷ others)
-and_others (Ok first) None = None
-and_others (Err f) others = None
+-- a line whose first token begins with # is a comment, and one without tokens is blank: they hold no command
+abbrev pub holds_command : List (List ℕ) → Bool
+holds_command [] = false
+holds_command (token ∷ tokens) = not (slice_index token 0 == 35)
 
--- what the parts between line feeds spell, where each line ends with one, so that nothing stands behind the last, and none has a fault
-abbrev pub lines_of : ℕ → List (List ℕ) → Option (List SpelledLine)
-lines_of workers [] = None
-lines_of workers (rest ∷ []) = if length rest == 0 then Some [] else None
-lines_of workers (line ∷ next ∷ more) = and_others (line_of workers (tokens_of line)) (lines_of workers (next ∷ more))
+-- what the tokens of a line spell, if they hold a command
+abbrev pub spelled_of : ℕ → List (List ℕ) → Result (Option SpelledLine) LineFault
+spelled_of workers tokens = if holds_command tokens then (line_of workers tokens >>= λ line. Ok (Some line)) else Ok None
+
+-- the parts between line feeds, where an empty one behind the last line feed is no line
+abbrev pub without_empty_last : List (List ℕ) → List (List ℕ)
+without_empty_last [] = []
+without_empty_last (rest ∷ []) = if length rest == 0 then [] else rest ∷ []
+without_empty_last (line ∷ next ∷ more) = line ∷ without_empty_last (next ∷ more)
+
+-- the lines of an input
+abbrev pub lines_of : List ℕ → List (List ℕ)
+lines_of bytes = without_empty_last (slice_split (λ byte. byte == 10) bytes)
+
+-- this line's fault, or the first of the others
+abbrev pub fault_or : ℕ → Result (Option SpelledLine) LineFault → Option (ℕ × LineFault) → Option (ℕ × LineFault)
+fault_or number (Err f) others = Some (number, f)
+fault_or number (Ok found) others = others
+
+-- the number and the fault of the first line that has one; the first of these lines has this number
+abbrev pub first_bad : ℕ → ℕ → List (List ℕ) → Option (ℕ × LineFault)
+first_bad workers number [] = None
+first_bad workers number (line ∷ lines) = fault_or number (spelled_of workers (tokens_of line)) (first_bad workers (number + 1) lines)
+
+-- the command that was found, if there is one
+abbrev pub found_in : Result (Option SpelledLine) LineFault → List SpelledLine
+found_in (Ok (Some line)) = line ∷ []
+found_in (Ok None) = []
+found_in (Err f) = []
+
+-- the commands that these lines spell
+abbrev pub spelled_lines : ℕ → List (List ℕ) → List SpelledLine
+spelled_lines workers lines = flat_map (λ line. found_in (spelled_of workers (tokens_of line))) lines
 
 -- the names that a command names
 abbrev pub named : Spelled → List (List ℕ)
@@ -125,9 +160,13 @@ script_of_lines spelled =
     let names = in_order (flat_map (λ line. named line.command) spelled) in
     record { names = names; lines = map (λ line. record { worker = line.worker; command = placed names line.command }) spelled }
 
--- the script that an input spells, or nothing where some line is outside the grammar
-abbrev pub script_of : ℕ → List ℕ → Option Plain
-script_of workers bytes = option_map script_of_lines (lines_of workers (slice_split (λ byte. byte == 10) bytes))
+-- the script that an input spells
+abbrev pub script_of : ℕ → List ℕ → Plain
+script_of workers bytes = script_of_lines (spelled_lines workers (lines_of bytes))
+
+-- the first fault of an input
+abbrev pub first_bad_of : ℕ → List ℕ → Option (ℕ × LineFault)
+first_bad_of workers bytes = first_bad workers 1 (lines_of bytes)
 
 -- each name of the command is one of so many
 abbrev pub IsWithinNames : ℕ → Command → Type 0

@@ -3,3 +3,6 @@ pub mod Texts
 pub mod Numbers
 pub mod Grammar
 pub mod Replies
+pub mod Faults
+pub mod Tokens
+pub mod Layout

@@ -2,14 +2,17 @@
 #![tactic(auto)]
 
 mod command;
+mod laws;
 mod lines;
 mod number;
 mod reply;
 mod script;
 mod spelling;
 mod text;
+mod tokens;
 
 pub use command::{Command, Line, NameId, Reply, Script, Tag};
+pub use laws::{law_layout, law_written};
 pub use number::number_within;
 pub use reply::write_reply;
 pub use script::{ScriptError, read_script};

@@ -1,37 +1,79 @@
 //! An input cut into lines, and what each of them spells.
 
-ghost use Rattle.std.specs.Prelude.{◌≡◌, ◌==◌, ◌≤◌, length, Some, None, IfOk, IsErrOf, position};
+ghost use Rattle.std.specs.Prelude.{◌≡◌, ◌==◌, ◌<◌, ◌≤◌, ◌∷◌, ◌++◌, [], length, take, None, IfOk, OnOk, IfErr, position};
 ghost use Rattle.std.specs.List.{slice_split};
-ghost use Rattle.kmem_text.specs.Grammar.{lines_of};
+ghost use Rattle.kmem_text.specs.Grammar.{lines_of, spelled_lines, first_bad_of};
+ghost use Rattle.kmem_text.specs.Faults.{Explains};
 
 use super::ScriptError;
-use super::spelling::{Spelled, SpelledLine, line_of, tokens_of};
-use std::alloc::Global;
+use super::spelling::{Spelled, SpelledLine, spelled_of};
+use super::tokens::{MOST_TOKENS, fill_tokens};
+use std::alloc::{AllocError, Global};
 
-/// What the lines spell, each of which ends with a line feed.
+/// The most commands that a script may have.
+const MAX_COMMANDS: usize = 100_000;
+
+/// The commands that the lines of an input spell. At most one more than a script may have is kept.
 pub fn spelled_lines(
     alloc: Global,
     bytes: &[u8],
     workers: u32,
 ) -> Result<Vec<SpelledLine>, ScriptError>
-    ensures good { IfOk result (λ lines. lines_of workers (slice_split (λ byte. byte == 10) bytes.now) ≡ Some lines.items) }
-    ensures bad { IsErrOf result ScriptError.Bad → lines_of workers (slice_split (λ byte. byte == 10) bytes.now) ≡ None }
-    ensures few { IfOk result (λ lines. length lines.items ≤ length bytes.now) }
+    requires { length bytes.now ≤ 16777216 }
+    ensures lines { IfOk result (λ lines. lines.items ≡ spelled_lines workers (lines_of bytes.now)) }
+    ensures good { OnOk result (first_bad_of workers bytes.now ≡ None) }
+    ensures few { IfOk result (λ lines. length lines.items ≤ 100000) }
+    ensures error { IfErr result (λ error. Explains error (first_bad_of workers bytes.now) (length (spelled_lines workers (lines_of bytes.now)))) }
 {
     let mut lines = Vec::new(alloc);
+    let mut tokens = Vec::with_capacity(alloc, MOST_TOKENS)?;
     let mut rest = bytes;
-    while let Some(end) = line_feed(rest) {
-        let tokens = tokens_of(alloc, &rest[..end])?;
-        let Ok(SpelledLine { worker, command }) = line_of(&tokens, workers) else {
-            return Err(ScriptError::Bad);
-        };
-        lines.push(SpelledLine { worker, command })?;
-        rest = &rest[end + 1..];
+    let mut number = 0u32;
+    'cutting: while !rest.is_empty() {
+        let (line, behind) = cut_line(rest);
+        rest = behind;
+        number += 1;
+        fill_tokens(line, &mut tokens);
+        match spelled_of(&tokens, workers) {
+            Ok(Some(SpelledLine { worker, command })) => keep(
+                &mut lines,
+                SpelledLine { worker, command },
+            )?,
+            Ok(None) => {}
+            Err(fault) => return Err(ScriptError::BadLine {
+                line: number,
+                fault,
+            }),
+        }
     }
-    if rest.is_empty() {
+    if lines.len() <= MAX_COMMANDS {
         Ok(lines)
     } else {
-        Err(ScriptError::Bad)
+        Err(ScriptError::TooMany)
+    }
+}
+
+/// Adds a line, but for those past the first that is too many.
+fn keep(lines: &mut Vec<SpelledLine>, line: SpelledLine) -> Result<(), AllocError>
+    requires { length lines.old.items ≤ 100001 }
+    ensures { OnOk result (lines.new.items ≡ take 100001 (lines.old.items ++ line ∷ [])) }
+{
+    let SpelledLine { worker, command } = line;
+    if lines.len() <= MAX_COMMANDS {
+        lines.push(SpelledLine { worker, command })?;
+    }
+    Ok(())
+}
+
+/// The first line of an input that isn't empty, and what stands behind its line feed.
+fn cut_line(bytes: &[u8]) -> (&[u8], &[u8])
+    requires { 0 < length bytes.now }
+    ensures lines { lines_of bytes.now ≡ result.0.now ∷ lines_of result.1.now }
+    ensures shorter { length result.1.now < length bytes.now }
+{
+    match line_feed(bytes) {
+        Some(end) => (&bytes[..end], &bytes[end + 1..]),
+        None => (bytes, &[]),
     }
 }
 

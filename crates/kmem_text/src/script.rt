@@ -1,23 +1,26 @@
 //! Scripts: an input read into names and lines.
 
-ghost use Rattle.std.specs.Prelude.{◌≡◌, ◌<◌, ◌≤◌, ◌^◌, List, ℕ, length, map, All, Some, None, IsNone, IfOk, IsErrOf, ◌==◌};
-ghost use Rattle.std.specs.List.{slice_split, flat_map, AllByRecursion};
+ghost use Rattle.std.specs.Prelude.{◌≡◌, ◌<◌, ◌≤◌, ◌^◌, List, ℕ, length, map, All, None, IfOk, OnOk, IfErr};
+ghost use Rattle.std.specs.List.{flat_map, AllByRecursion};
 ghost use Rattle.std.specs.List.Sorted.{IsStrictlySortedBy};
 ghost use Rattle.std.specs.Cmp.Lexicographic.{slice_cmp};
 ghost use Rattle.std.specs.Ordering.{nat_cmp};
-ghost use Rattle.kmem_text.specs.Grammar.{Plain, script_of, lines_of, in_order, place_of, placed, named, IsAmongNames, IsWithinNames};
+ghost use Rattle.kmem_text.specs.Faults.{Explains};
+ghost use Rattle.kmem_text.specs.Grammar.{Plain, script_of, first_bad_of, in_order, place_of, placed, named, IsAmongNames, IsWithinNames};
 
 use super::lines::spelled_lines;
 use super::spelling::{Spelled, SpelledLine};
-use super::{Command, Line, Name, NameId, Script};
+use super::{Command, Line, LineFault, Name, NameId, Script};
 use std::alloc::{AllocError, AllocFailed, Global};
 use std::collections::BTreeSet;
 
 /// Why an input is no script.
 #[derive(Clone, Copy, Debug, PartialEq, Eq)]
 pub enum ScriptError {
-    /// Some line is outside the grammar.
-    Bad,
+    /// The first line outside the grammar, counted from 1, and its first failing check.
+    BadLine { line: u32, fault: LineFault },
+    /// Every line is good, and there are more than 100,000 commands.
+    TooMany,
     NoMemory,
 }
 
@@ -45,8 +48,10 @@ impl<T: Drop> From<AllocFailed<T>> for ScriptError {
 pub fn read_script(alloc: Global, bytes: &[u8], workers: u32) -> Result<Script, ScriptError>
     requires workers { workers ≤ 16 }
     requires size { length bytes.now ≤ 16777216 }
-    ensures script { IfOk result (λ script. script_of workers bytes.now ≡ Some (record { names = script.names.items; lines = script.lines.items })) }
-    ensures bad { IsErrOf result ScriptError.Bad → IsNone (script_of workers bytes.now) }
+    ensures script { IfOk result (λ script. script_of workers bytes.now ≡ record { names = script.names.items; lines = script.lines.items }) }
+    ensures good { OnOk result (first_bad_of workers bytes.now ≡ None) }
+    ensures commands { IfOk result (λ script. length script.lines.items ≤ 100000) }
+    ensures error { IfErr result (λ error. Explains error (first_bad_of workers bytes.now) (length (script_of workers bytes.now).lines)) }
     ensures few { IfOk result (λ script. length script.names.items < 2 ^ 32) }
     ensures places { IfOk result (λ script. All (λ line. IsWithinNames (length script.names.items) line.command) script.lines.items) }
 {

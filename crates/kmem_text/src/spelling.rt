@@ -1,10 +1,9 @@
 //! What one line of a script spells.
 
-ghost use Rattle.std.specs.Prelude.{◌≡◌, map, IfOk};
-ghost use Rattle.kmem_text.specs.Grammar.{tokens_of, name_of, value_of, put_of, one_name, count_of, command_of, line_of};
+ghost use Rattle.std.specs.Prelude.{◌≡◌, map};
+ghost use Rattle.kmem_text.specs.Grammar.{spelled_of, holds_command, name_of, value_of, put_of, one_name, count_of, command_of, line_of};
 
 use super::{Name, Value, number_within};
-use std::alloc::{AllocError, Global};
 
 /// The first check of a line that fails, in the order of the checks.
 #[derive(Clone, Copy, Debug, PartialEq, Eq)]
@@ -33,15 +32,29 @@ pub struct SpelledLine {
     pub command: Spelled,
 }
 
-/// The tokens of a line, which single spaces separate.
-pub fn tokens_of(alloc: Global, line: &[u8]) -> Result<Vec<&[u8]>, AllocError>
-    ensures { IfOk result (λ tokens. map (λ token. token.now) tokens.items ≡ tokens_of line.now) }
+/// What the tokens of a line spell, if they hold a command.
+pub fn spelled_of(tokens: &[&[u8]], workers: u32) -> Result<Option<SpelledLine>, LineFault>
+    ensures { result ≡ spelled_of workers (map (λ token. token.now) tokens.now) }
 {
-    line.split(|byte| *byte == b' ').collect(alloc)
+    if !holds_command(tokens) {
+        return Ok(None);
+    }
+    let line = line_of(tokens, workers)?;
+    Ok(Some(line))
+}
+
+/// Blank lines and comments hold none.
+fn holds_command(tokens: &[&[u8]]) -> bool
+    ensures { result ≡ holds_command (map (λ token. token.now) tokens.now) }
+{
+    match tokens {
+        [] => false,
+        [token, ..] => !token.starts_with(b"#"),
+    }
 }
 
 /// The worker and the command of these tokens, or the first check that fails.
-pub fn line_of(tokens: &[&[u8]], workers: u32) -> Result<SpelledLine, LineFault>
+fn line_of(tokens: &[&[u8]], workers: u32) -> Result<SpelledLine, LineFault>
     ensures { result ≡ line_of workers (map (λ token. token.now) tokens.now) }
 {
     let [worker, tokens @ ..] = tokens else {

@@ -8,7 +8,9 @@ fn script_of(alloc: Global, text: &[u8]) -> Result<Script, Fail> {
     }
     match read_script(alloc, text, 16) {
         Ok(script) => Ok(script),
-        Err(ScriptError::Bad) => Err(Fail::from("a good script")),
+        Err(ScriptError::BadLine { line: _, fault: _ }) | Err(ScriptError::TooMany) => Err(
+            Fail::from("a good script"),
+        ),
         Err(ScriptError::NoMemory) => Err(Fail::from("memory")),
     }
 }

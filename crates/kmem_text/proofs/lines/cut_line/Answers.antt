@@ -1,0 +1,9 @@
+use Rattle.std.proofs.Common.{sym, refl}
+use Rattle.kmem_text.proofs.Parts.{line_at, last_line}
+use Rattle.kmem_text.proofs.lines.cut_line.Goals as goal
+
+pub returns-in-Some-clause-lines : goal.returns-in-Some-clause-lines
+returns-in-Some-clause-lines c = (line_at c.args.bytes.now _ c.in-Some.end (sym c.in-Some.ensures) refl).0
+
+pub returns-in-None-clause-lines : goal.returns-in-None-clause-lines
+returns-in-None-clause-lines c = last_line c.args.bytes.now (sym c.in-None.ensures) c.requires
