@@ -1,5 +1,5 @@
 -- Replies put into a page, one behind the other.
-use Rattle.std.proofs.Common.{◌≡◌, ℕ, ◌+◌, ◌-◌, ◌≤◌, ◌<◌, List, [], ◌∷◌, ◌++◌, length, take, drop, refl, sym, ap, ◌∙◌, subst, arith, append_assoc, length-append, length-take-le, set, get_or, Option}
+use Rattle.std.proofs.Common.{◌≡◌, ℕ, ◌+◌, ◌≤◌, ◌<◌, List, [], ◌∷◌, ◌++◌, length, take, drop, sym, ap, ◌∙◌, arith, append_assoc, length-append, length-take-le, set, get_or, Option}
 use Rattle.std.proofs.lemmas.List.{take-take, take_at, take_more_set, drop_more}
 use Rattle.kmem_io.specs.Streams.{AppendsFront, Appends-then, AppendsFront-behind}
 use Rattle.kmem_text.specs.declared.command.Line.{Line}

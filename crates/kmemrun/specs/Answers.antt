@@ -1,29 +1,48 @@
 -- What a run of the program writes, or which status it ends with, by its words and its input (this project's own rule).
-use Rattle.std.specs.Prelude.{◌≡◌, ◌≢◌, ◌<◌, ◌⊎◌, ◌↔◌, ℕ, nat_lt, List, [], length, codes, Option, Some, None, IsNone, IfSome, Result, Ok, Err, IsOkAnd, IsErrOf, if◌then◌else◌}
+use Rattle.std.specs.Prelude.{◌≡◌, ◌≢◌, ◌<◌, ◌⊎◌, ◌↔◌, ℕ, nat_lt, List, [], ◌++◌, length, codes, MatchOption, Option, Some, None, IsNone, IfSome, Result, Ok, Err, IsOk, IsOkAnd, IsErrOf, if◌then◌else◌}
 use Rattle.std.specs.Io.KnownBytes.{Appends, Keeps, IsAtEnd}
 use Rattle.kmem_io.specs.Streams.{AppendsFront}
-use Rattle.kmem_text.specs.Grammar.{Plain, script_of}
+use Rattle.std.specs.Fmt.{decimal}
+use Rattle.kmem_text.specs.Grammar.{Plain, script_of, first_bad_of}
+use Rattle.kmem_text.specs.declared.spelling.LineFault.{LineFault}
+use Rattle.kmem_text.specs.declared.spelling.LineFault.TheVariants as at
 use Rattle.kmem_model.specs.One.{one_output}
-use Rattle.kmem_model.specs.Words.{plan_of}
 use Rattle.kmem_model.specs.declared.plan.Plan.{Plan}
 use Rattle.kmem_model.specs.declared.plan.Plan.TheVariants.{One}
 use Rattle.kmemrun.specs.declared.status.Status.{Status}
 use Rattle.kmemrun.specs.declared.status.Status.TheVariants as status
 use Rattle.kmemrun.specs.declared.fault.Fault.{Fault}
 use Rattle.kmemrun.specs.declared.fault.Fault.TheVariants as fault
+use Rattle.kmemrun.specs.declared.fault.BadLine.{BadLine}
 
--- the output for a script, or the fault where the input is none
-abbrev pub output_or_bad : ℕ → ℕ → Option Plain → Result (List ℕ) Fault
-output_or_bad slabs chunks None = Err fault.BadScript
-output_or_bad slabs chunks (Some script) = Ok (one_output slabs chunks script)
+-- the output for a script; or its first bad line, or that it has too many commands
+abbrev pub script_answer : ℕ → ℕ → Option (ℕ × LineFault) → Plain → Result (List ℕ) Fault
+script_answer slabs chunks (Some bad) script = Err (fault.BadScript bad.0 bad.1)
+script_answer slabs chunks None script = if nat_lt 100000 (length script.lines) then Err fault.Limit else Ok (one_output slabs chunks script)
 
 -- what `one` writes for an input of at most 16 MiB, or why it writes nothing
 abbrev pub one_answer : ℕ → ℕ → List ℕ → Result (List ℕ) Fault
-one_answer slabs chunks bytes = if nat_lt 16777216 (length bytes) then Err fault.Limit else output_or_bad slabs chunks (script_of 16 bytes)
+one_answer slabs chunks bytes = if nat_lt 16777216 (length bytes) then Err fault.Limit else script_answer slabs chunks (first_bad_of 16 bytes) (script_of 16 bytes)
+
+-- what holds of the line and the check of a bad script
+abbrev pub IfBadScript : Fault → (ℕ → LineFault → Type 0) → Type 0
+IfBadScript (fault.BadScript line f) P = P line f
+IfBadScript fault.Read P = Unit {0}
+IfBadScript fault.Write P = Unit {0}
+IfBadScript fault.Limit P = Unit {0}
+IfBadScript fault.NoMemory P = Unit {0}
+
+-- the fault is this one, but for want of memory, which is free, and for a read that failed
+abbrev pub IsDue : Result Unit Fault → Fault → Type 0
+IsDue result due = IsErrOf result due ⊎ (IsErrOf result fault.NoMemory ⊎ IsErrOf result fault.Read)
+
+-- there is no fault, but for want of memory and for a read or a write that failed
+abbrev pub IsFineButForStreams : Result Unit Fault → Type 0
+IsFineButForStreams result = IsOk result ⊎ (IsErrOf result fault.Write ⊎ (IsErrOf result fault.NoMemory ⊎ IsErrOf result fault.Read))
 
 -- the status of a fault
 abbrev pub status_of : Fault → Status
-status_of fault.BadScript = status.BadScript
+status_of (fault.BadScript line f) = status.BadScript
 status_of fault.Read = status.ReadFault
 status_of fault.Write = status.WriteFault
 status_of fault.Limit = status.Limit
@@ -49,20 +68,46 @@ status_code status.Limit = 5
 status_code status.NoMemory = 6
 status_code status.Illegal = 7
 
--- what is written to standard error
+-- the word for a fault of a line
+abbrev pub fault_word : LineFault → List ℕ
+fault_word at.Worker = codes "worker"
+fault_word at.Command = codes "command"
+fault_word at.Words = codes "words"
+fault_word at.Name = codes "name"
+fault_word at.Value = codes "value"
+fault_word at.Tag = codes "tag"
+
+-- what is written to standard error for the first bad line
+abbrev pub bad_line_text : ℕ → LineFault → List ℕ
+bad_line_text line f = codes "kmemrun: line " ++ (decimal line ++ (codes ": " ++ (fault_word f ++ codes "\n")))
+
+-- what is written to standard error for the other statuses
 abbrev pub status_text : Status → List ℕ
 status_text status.Fine = []
 status_text status.Usage = codes "kmemrun: usage\n"
-status_text status.BadScript = codes "kmemrun: bad script\n"
+status_text status.BadScript = []
 status_text status.ReadFault = codes "kmemrun: read fault\n"
 status_text status.WriteFault = codes "kmemrun: write fault\n"
 status_text status.Limit = codes "kmemrun: limit\n"
 status_text status.NoMemory = codes "kmemrun: no memory\n"
 status_text status.Illegal = codes "kmemrun: illegal\n"
 
+-- what is written to standard error
+abbrev pub told_text : Status → Option BadLine → List ℕ
+told_text ended None = status_text ended
+told_text ended (Some bad) = bad_line_text bad.line bad.fault
+
+-- the status is this one, but for want of memory, which is free, and for a read that failed
+abbrev pub IsDueStatus : Status → Status → Type 0
+IsDueStatus ended due = (ended ≡ due) ⊎ ((ended ≡ status.NoMemory) ⊎ (ended ≡ status.ReadFault))
+
+-- the status is Fine, but for want of memory and for a read or a write that failed
+abbrev pub IsFineStatusButForStreams : Status → Type 0
+IsFineStatusButForStreams ended = (ended ≡ status.WriteFault) ⊎ IsDueStatus ended status.Fine
+
 -- How a plan ends with a status: what it reads and writes, and when each status comes. The input goes from what it has left
 -- and its count of faults to those after, and so does the output from what was written.
-pub record Ends (plan : Option Plan) (left left_after : Option (List ℕ)) (reads reads_after : ℕ) (written written_after : Option (List ℕ)) (writes writes_after : ℕ) (ended : Status) : Type 0 where
+pub record Ends (plan : Option Plan) (left left_after : Option (List ℕ)) (reads reads_after : ℕ) (written written_after : Option (List ℕ)) (writes writes_after : ℕ) (ended : Status) (bad : Option BadLine) : Type 0 where
   pub text : ended ≡ status.Fine → IfSome left (λ bytes. IsOkAnd (plan_answer plan bytes) (λ text. Appends written written_after text))
   pub end : ended ≡ status.Fine → IsAtEnd left_after
   pub usage : (ended ≡ status.Usage) ↔ IsNone plan
@@ -71,5 +116,8 @@ pub record Ends (plan : Option Plan) (left left_after : Option (List ℕ)) (read
   pub bad_script : ended ≡ status.BadScript → IfSome left (λ bytes. IsErrOf (plan_answer plan bytes) status.BadScript)
   pub write_fault : (ended ≡ status.WriteFault) ↔ (writes < writes_after)
   pub not_illegal : ended ≢ status.Illegal
+  pub due : IfSome left (λ bytes. (due : Status) → IsErrOf (plan_answer plan bytes) due → IsDueStatus ended due)
+  pub fine : IfSome left (λ bytes. IsOk (plan_answer plan bytes) → IsFineStatusButForStreams ended)
   pub front : ended ≡ status.WriteFault → IfSome left (λ bytes. IsOkAnd (plan_answer plan bytes) (λ text. AppendsFront written written_after text))
   pub untouched : ended ≢ status.Fine → ended ≢ status.WriteFault → Keeps written written_after
+  pub told : MatchOption bad (ended ≢ status.BadScript) (λ b. (ended ≡ status.BadScript) × IfSome left (λ bytes. first_bad_of 16 bytes ≡ Some (b.line, b.fault)))

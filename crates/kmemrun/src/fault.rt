@@ -1,13 +1,15 @@
 //! Why a command of the program did not end well.
 
-ghost use Rattle.std.specs.Prelude.{◌≡◌};
-ghost use Rattle.kmemrun.specs.Answers.{status_of};
+ghost use Rattle.std.specs.Prelude.{◌≡◌, ◌+◌, ◌≤◌, ◌++◌, length, take};
+ghost use Rattle.kmemrun.specs.Answers.{status_of, fault_word, bad_line_text};
 
 use crate::status::Status;
+use itoa::Buffer;
+use kmem_text::LineFault;
 
 #[derive(Clone, Copy, Debug, PartialEq, Eq)]
 pub enum Fault {
-    BadScript,
+    BadScript { line: u32, fault: LineFault },
     Read,
     Write,
     Limit,
@@ -19,11 +21,58 @@ impl Fault {
         ensures { result ≡ status_of self.now }
     {
         match self {
-            Fault::BadScript => Status::BadScript,
+            Fault::BadScript { line: _, fault: _ } => Status::BadScript,
             Fault::Read => Status::ReadFault,
             Fault::Write => Status::WriteFault,
             Fault::Limit => Status::Limit,
             Fault::NoMemory => Status::NoMemory,
         }
     }
+}
+
+/// The first line of a script that is outside the grammar, counted from 1, and its first failing check.
+#[derive(Clone, Copy)]
+pub struct BadLine {
+    pub line: u32,
+    pub fault: LineFault,
+}
+
+impl BadLine {
+    /// Puts the line for standard error at the front of `room`, and answers its length.
+    pub fn write_text(&self, room: &mut [u8]) -> usize
+        requires { 64 ≤ length room.old }
+        ensures fits { result ≤ length room.new }
+        ensures text { take result room.new ≡ bad_line_text self.now.line self.now.fault }
+    {
+        let mut digits = Buffer::new();
+        let at = fill(room, 0, b"kmemrun: line ");
+        let at = fill(room, at, digits.format(self.line).as_bytes());
+        let at = fill(room, at, b": ");
+        let at = fill(room, at, fault_word(self.fault));
+        fill(room, at, b"\n")
+    }
+}
+
+fn fault_word(fault: LineFault) -> &'static [u8]
+    ensures word { result.now ≡ fault_word fault }
+    ensures short { length result.now ≤ 7 }
+{
+    match fault {
+        LineFault::Worker => b"worker",
+        LineFault::Command => b"command",
+        LineFault::Words => b"words",
+        LineFault::Name => b"name",
+        LineFault::Value => b"value",
+        LineFault::Tag => b"tag",
+    }
+}
+
+/// Puts a piece at a place, and answers where it ends.
+fn fill(room: &mut [u8], at: usize, piece: &[u8]) -> usize
+    requires { at + length piece.now ≤ length room.old }
+    ensures end { result ≡ at + length piece.now }
+    ensures text { take result room.new ≡ take at room.old ++ piece.now }
+{
+    room[at..at + piece.len()].copy_from_slice(piece);
+    at + piece.len()
 }

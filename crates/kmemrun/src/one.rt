@@ -1,12 +1,13 @@
 //! `one`: all lines in the order of the file, on one thread.
 
-ghost use Rattle.std.specs.Prelude.{◌≡◌, ◌≢◌, ◌+◌, ◌*◌, ◌<◌, ◌≤◌, ◌↔◌, ◌^◌, ◌++◌, ◌∷◌, [], All, length, take, Some, None, MatchResult, IfOk, OnOk, IfErr, IsOkAnd, IsErrOf, IfSome};
+ghost use Rattle.std.specs.Prelude.{◌≡◌, ◌≢◌, ◌+◌, ◌*◌, ◌<◌, ◌≤◌, ◌↔◌, ◌^◌, ◌++◌, ◌∷◌, [], All, length, take, Some, None, MatchResult, IfOk, OnOk, IfErr, IsOk, IsOkAnd, IsErrOf, IfSome};
 ghost use Rattle.std.specs.Io.KnownBytes.{Appends, Keeps, Consumes, IsAtEnd};
 ghost use Rattle.kmem_io.specs.Streams.{CanRise, CountsFaults, AppendsFront};
-ghost use Rattle.kmem_text.specs.Grammar.{script_of, IsWithinNames};
+ghost use Rattle.kmem_text.specs.Grammar.{script_of, first_bad_of, IsWithinNames};
+ghost use Rattle.kmem_text.specs.Faults.{Explains};
 ghost use Rattle.kmem_text.specs.Replies.{reply_text};
 ghost use Rattle.kmem_model.specs.One.{step_within, replies, reply_lines, empty_map};
-ghost use Rattle.kmemrun.specs.Answers.{one_answer};
+ghost use Rattle.kmemrun.specs.Answers.{one_answer, IfBadScript, IsDue, IsFineButForStreams};
 ghost use Rattle.kmemrun.specs.Pages.{MovesOut};
 
 use crate::fault::Fault;
@@ -49,8 +50,13 @@ pub fn serve_one<R: Source, W: Sink>(
     // When each fault comes.
     ensures read { IsErrOf result Fault.Read ↔ (R.faults input.old < R.faults input.new) }
     ensures limit { IsErrOf result Fault.Limit → IfSome (R.left input.old) (λ bytes. IsErrOf (one_answer slabs chunks bytes) Fault.Limit) }
-    ensures bad_script { IsErrOf result Fault.BadScript → IfSome (R.left input.old) (λ bytes. IsErrOf (one_answer slabs chunks bytes) Fault.BadScript) }
+    ensures bad_script { IfErr result (λ fault. IfBadScript fault (λ line check. IfSome (R.left input.old) (λ bytes.
+        IsErrOf (one_answer slabs chunks bytes) (Fault.BadScript line check)))) }
+    ensures first_bad { IfErr result (λ fault. IfBadScript fault (λ line check. IfSome (R.left input.old) (λ bytes.
+        first_bad_of 16 bytes ≡ Some (line, check)))) }
     ensures write { IsErrOf result Fault.Write ↔ (W.faults out.old < W.faults out.new) }
+    ensures due { IfSome (R.left input.old) (λ bytes. (due : Fault) → IsErrOf (one_answer slabs chunks bytes) due → IsDue result due) }
+    ensures fine { IfSome (R.left input.old) (λ bytes. IsOk (one_answer slabs chunks bytes) → IsFineButForStreams result) }
 
     // What a fault leaves.
     ensures front { IsErrOf result Fault.Write → IfSome (R.left input.old) (λ bytes.
@@ -66,7 +72,8 @@ pub fn serve_one<R: Source, W: Sink>(
     };
     let mut ready = match open_one(alloc, slabs * chunks, &bytes) {
         Ok(ready) => ready,
-        Err(ScriptError::Bad) => return Err(Fault::BadScript),
+        Err(ScriptError::BadLine { line, fault }) => return Err(Fault::BadScript { line, fault }),
+        Err(ScriptError::TooMany) => return Err(Fault::Limit),
         Err(ScriptError::NoMemory) => return Err(Fault::NoMemory),
     };
     match answer_lines(&ready.script, &mut ready.heap, &mut ready.page, out) {
@@ -86,11 +93,13 @@ pub struct OpenOne {
 /// Takes all memory of a run.
 fn open_one(alloc: Global, buffers: u32, bytes: &[u8]) -> Result<OpenOne, ScriptError>
     requires { length bytes.now ≤ 16777216 }
-    ensures script { IfOk result (λ ready. script_of 16 bytes.now ≡ Some (record { names = ready.script.names.items; lines = ready.script.lines.items })) }
+    ensures script { IfOk result (λ ready. script_of 16 bytes.now ≡ record { names = ready.script.names.items; lines = ready.script.lines.items }) }
+    ensures good { OnOk result (first_bad_of 16 bytes.now ≡ None) }
+    ensures few { IfOk result (λ ready. length ready.script.lines.items ≤ 100000) }
     ensures heap { IfOk result (λ ready. ready.heap ≡ record { capacity = buffers; map = empty_map (length ready.script.names.items) }) }
     ensures within { IfOk result (λ ready. All (λ line. IsWithinNames (length ready.script.names.items) line.command) ready.script.lines.items) }
     ensures page { IfOk result (λ ready. length ready.page.items ≡ 65536) }
-    ensures bad { IsErrOf result ScriptError.Bad → script_of 16 bytes.now ≡ None }
+    ensures error { IfErr result (λ error. Explains error (first_bad_of 16 bytes.now) (length (script_of 16 bytes.now).lines)) }
 {
     let script = match read_script(alloc, bytes, 16) {
         Ok(script) => script,

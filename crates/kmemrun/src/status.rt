@@ -32,14 +32,14 @@ impl Status {
         }
     }
 
-    /// The line on standard error.
+    /// The line on standard error; of a bad script the line is that of its first bad line.
     pub fn text(&self) -> &'static [u8]
         ensures { result.now ≡ status_text self.now }
     {
         match self {
             Status::Fine => b"",
             Status::Usage => b"kmemrun: usage\n",
-            Status::BadScript => b"kmemrun: bad script\n",
+            Status::BadScript => b"",
             Status::ReadFault => b"kmemrun: read fault\n",
             Status::WriteFault => b"kmemrun: write fault\n",
             Status::Limit => b"kmemrun: limit\n",

@@ -52,7 +52,17 @@ fn worked_rows(rt: HostRuntime) -> Result<(), Fail> {
         b"1 put a x\n1 put a y\n1 get a\n".as_slice(),
         b"new\nwas x\nval y\n".as_slice(),
     );
-    for (words, input, output) in [first, empty, full, replaces] {
+    let longest = (
+        ["one", "2", "2"],
+        b"1 put aaaaaaaaaabbbbbbbbbbccccccccccdd aaaaaaaaaabbbbbbbbbbccccccccccddddddddddeeeeeeeeeeffffffffffgggg\n".as_slice(),
+        b"new\n".as_slice(),
+    );
+    let comments = (
+        ["one", "2", "2"],
+        b"# c\r\n1 put a x\r\n\r\n1 get a".as_slice(),
+        b"new\nval x\n".as_slice(),
+    );
+    for (words, input, output) in [first, empty, full, replaces, longest, comments] {
         let ran = run_in_memory(&rt, rt.alloc(), words.as_slice(), input)?;
         assert_eq!(rt; ran.status, Status::Fine);
         assert_eq!(rt; ran.out.bytes(), output);
@@ -135,44 +145,143 @@ fn failing_sink_and_source(rt: HostRuntime) -> Result<(), Fail> {
     Ok(())
 }
 
-/// Each kind of bad line, and a good neighbour of it.
+/// Lines with the check that fails first, and a good neighbour of each.
 #[test]
 fn bad_lines(rt: HostRuntime) -> Result<(), Fail> {
-    let long_name = b"1 get aaaaaaaaaabbbbbbbbbbccccccccccddd\n".as_slice();
-    let longest_name = b"1 get aaaaaaaaaabbbbbbbbbbccccccccccdd\n".as_slice();
+    let long_name = b"1 count\n1 get aaaaaaaaaabbbbbbbbbbccccccccccddd".as_slice();
+    let longest_name = b"1 get aaaaaaaaaabbbbbbbbbbccccccccccdd".as_slice();
     let long_value =
-        b"1 put a aaaaaaaaaabbbbbbbbbbccccccccccddddddddddeeeeeeeeeeffffffffffggggg\n".as_slice();
+        b"1 count\n1 put a aaaaaaaaaabbbbbbbbbbccccccccccddddddddddeeeeeeeeeeffffffffffggggg".as_slice();
     let longest_value =
-        b"1 put a aaaaaaaaaabbbbbbbbbbccccccccccddddddddddeeeeeeeeeeffffffffffgggg\n".as_slice();
+        b"1 put a aaaaaaaaaabbbbbbbbbbccccccccccddddddddddeeeeeeeeeeffffffffffgggg".as_slice();
     let cases = [
-        (b"0 get a\n".as_slice(), b"1 get a\n".as_slice()),
-        (b"17 get a\n".as_slice(), b"16 get a\n".as_slice()),
-        (b"01 get a\n".as_slice(), b"10 get a\n".as_slice()),
-        (b"get a\n".as_slice(), b"2 get a\n".as_slice()),
-        (b"1 got a\n".as_slice(), b"1 get a\n".as_slice()),
-        (b"1 link a b\n".as_slice(), b"1 put a b\n".as_slice()),
-        (b"1 put a\n".as_slice(), b"1 put a x\n".as_slice()),
-        (b"1 count a\n".as_slice(), b"1 count\n".as_slice()),
-        (b"1 get A\n".as_slice(), b"1 get a\n".as_slice()),
-        (b"1 get a\x7F\n".as_slice(), b"1 get a-_.9\n".as_slice()),
-        (b"1 put a \x1F\n".as_slice(), b"1 put a !~\n".as_slice()),
-        (b"1 put a  x\n".as_slice(), b"1 put a x\n".as_slice()),
-        (b" 1 get a\n".as_slice(), b"1 get a\n".as_slice()),
-        (b"1 get a \n".as_slice(), b"1 get a\n".as_slice()),
-        (b"1\tget a\n".as_slice(), b"1 get a\n".as_slice()),
-        (b"1 get a\r\n".as_slice(), b"1 get a\n".as_slice()),
-        (b"\n1 get a\n".as_slice(), b"1 get a\n1 get b\n".as_slice()),
-        (b"1 get a".as_slice(), b"1 get a\n".as_slice()),
-        (long_name, longest_name),
-        (long_value, longest_value),
+        (
+            b"0 get a".as_slice(),
+            b"kmemrun: line 1: worker\n".as_slice(),
+            b"1 get a".as_slice(),
+        ),
+        (
+            b"17 get a".as_slice(),
+            b"kmemrun: line 1: worker\n".as_slice(),
+            b"16 get a".as_slice(),
+        ),
+        (
+            b"01 get a".as_slice(),
+            b"kmemrun: line 1: worker\n".as_slice(),
+            b"10 get a".as_slice(),
+        ),
+        (
+            b"get a".as_slice(),
+            b"kmemrun: line 1: worker\n".as_slice(),
+            b"2 get a".as_slice(),
+        ),
+        (
+            b"1".as_slice(),
+            b"kmemrun: line 1: command\n".as_slice(),
+            b"1 count".as_slice(),
+        ),
+        (
+            b"1 got a".as_slice(),
+            b"kmemrun: line 1: command\n".as_slice(),
+            b"1 get a".as_slice(),
+        ),
+        (
+            b"1 link a b".as_slice(),
+            b"kmemrun: line 1: command\n".as_slice(),
+            b"1 put a b".as_slice(),
+        ),
+        (
+            b"1 put a".as_slice(),
+            b"kmemrun: line 1: words\n".as_slice(),
+            b"1 put a x".as_slice(),
+        ),
+        (
+            b"1 put a x y z z z".as_slice(),
+            b"kmemrun: line 1: words\n".as_slice(),
+            b"1 put a x".as_slice(),
+        ),
+        (
+            b"1 count a".as_slice(),
+            b"kmemrun: line 1: words\n".as_slice(),
+            b"1 count".as_slice(),
+        ),
+        (
+            b"1 get A".as_slice(),
+            b"kmemrun: line 1: name\n".as_slice(),
+            b"1 get a-_.9".as_slice(),
+        ),
+        (
+            b"1 put A \x1F".as_slice(),
+            b"kmemrun: line 1: name\n".as_slice(),
+            b"1 put a !~".as_slice(),
+        ),
+        (
+            b"1 put a \x7F".as_slice(),
+            b"kmemrun: line 1: value\n".as_slice(),
+            b"1 put a #".as_slice(),
+        ),
+        (
+            b"1 get a\rb".as_slice(),
+            b"kmemrun: line 1: name\n".as_slice(),
+            b"1 get a\r".as_slice(),
+        ),
+        (
+            b"1 get a\r\r\n".as_slice(),
+            b"kmemrun: line 1: name\n".as_slice(),
+            b"1 get a\r\n".as_slice(),
+        ),
+        (
+            b"# c\n\n \t\n1 get #\n2 got".as_slice(),
+            b"kmemrun: line 4: name\n".as_slice(),
+            b"#\n\t 1 \t get  a \t\n".as_slice(),
+        ),
+        (
+            long_name,
+            b"kmemrun: line 2: name\n".as_slice(),
+            longest_name,
+        ),
+        (
+            long_value,
+            b"kmemrun: line 2: value\n".as_slice(),
+            longest_value,
+        ),
     ];
-    for (bad, good) in cases {
-        let refused = run_in_memory(&rt, rt.alloc(), &["one", "2", "2"], bad)?;
-        assert_eq!(rt; refused.status, Status::BadScript, "at {bad:?}");
-        assert!(rt; refused.out.bytes().is_empty());
-        assert_eq!(rt; refused.err.bytes(), b"kmemrun: bad script\n".as_slice());
+    for (bad, told, good) in cases {
+        let ran = run_in_memory(&rt, rt.alloc(), &["one", "2", "2"], bad)?;
+        assert_eq!(rt; ran.status, Status::BadScript, "at {bad:?}");
+        assert!(rt; ran.out.bytes().is_empty());
+        assert_eq!(rt; ran.err.bytes(), told, "at {bad:?}");
         let taken = run_in_memory(&rt, rt.alloc(), &["one", "2", "2"], good)?;
         assert_eq!(rt; taken.status, Status::Fine, "at {good:?}");
+    }
+    Ok(())
+}
+
+/// A hundred thousand commands, and one more.
+#[test]
+fn as_many_commands_as_there_can_be(rt: HostRuntime) -> Result<(), Fail> {
+    let alloc = rt.alloc();
+    let mut input = Vec::new(alloc);
+    for _ in 0..100_000 {
+        input.extend_from_slice(b"1 count\n")?;
+    }
+    for status in [Status::Fine, Status::Limit] {
+        let mut source = MemSource::create(alloc, &input, 65536, &[])?;
+        let mut out = MemSink::create(alloc, 400_000, 65536, &[])?;
+        let mut err = MemSink::create(alloc, 64, 64, &[])?;
+        let ended = top(
+            &rt,
+            alloc,
+            &["one", "2", "2"],
+            &mut source,
+            &mut out,
+            &mut err,
+            &Open,
+        );
+        assert_eq!(rt; ended.status, status);
+        let len = if status == Status::Fine { 400_000 } else { 0 };
+        assert_eq!(rt; out.bytes().len(), len);
+        input.extend_from_slice(b"1 count\n")?;
     }
     Ok(())
 }

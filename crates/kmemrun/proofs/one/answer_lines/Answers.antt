@@ -1,4 +1,4 @@
-use Rattle.std.proofs.Common.{◌≡◌, ◌+◌, ◌<◌, ◌++◌, ◌∷◌, [], ℕ, List, length, get_or, take, drop, sym, ap, ◌∙◌, subst, arith}
+use Rattle.std.proofs.Common.{◌≡◌, ◌+◌, ◌<◌, ◌++◌, ◌∷◌, [], ℕ, List, length, get_or, take, drop, sym, ap, ◌∙◌, arith}
 use Rattle.kmem_text.specs.Replies.{reply_text}
 use Rattle.kmem_model.specs.One.{step_within, replies, reply_lines}
 use Rattle.kmem_text.specs.declared.command.Reply.{Reply}

@@ -1,4 +1,4 @@
-use Rattle.std.proofs.Common.{◌≡◌, ◌+◌, ◌-◌, ◌++◌, ◌≤◌, ℕ, List, ap, sym, ◌∙◌, length, take, drop, arith, length-append, length-drop, length-take-le}
+use Rattle.std.proofs.Common.{◌≡◌, ◌+◌, ◌-◌, ◌++◌, ◌≤◌, ℕ, List, ap, ◌∙◌, length, take, arith}
 use Rattle.std.proofs.lemmas.Slice.{take-put_mid}
 use Rattle.kmem_text.specs.Replies.{reply_text}
 use Rattle.kmemrun.proofs.Pages.{line_at, no_longer}
