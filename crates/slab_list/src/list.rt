@@ -8,7 +8,7 @@ ghost use Rattle.slab_list.specs.Slabs.{IsWhole, IsFree, slab_with, is_out_in, o
 ghost use Rattle.slab_list.specs.Lines.{AreFree, line_unmarked};
 
 use crate::line::Line;
-use kmem_buf::{Buf, Cell, Home, Kind, Stub};
+use kmem_buf::{Buf, Buffer, Cell, Home, Kind, Stub};
 use kmem_model::Standing;
 use std::alloc::{AllocError, Global};
 use std::marker::{Model, PhantomData};
@@ -41,6 +41,19 @@ impl<K> Drop for SlabList<K> {
             lines: _,
             kind: _,
         } = self;
+    }
+}
+
+impl<K> SlabList<K> {
+    /// Shows that the buffer is out. It asks nothing of the kind, so that a type with a list can be a `Cells` of every kind.
+    pub fn meet<X>(&mut self, buf: &mut Buffer<X>)
+        requires { IsOf self.old.cells buf.old }
+        ensures out { is_out_in self.old buf.old.number ≡ true }
+        ensures list { self.new ≡ self.old }
+        ensures buf { buf.new ≡ buf.old }
+    {
+        let cell = &mut self.cells[buf.number() as usize];
+        cell.meet(buf);
     }
 }
 
@@ -203,17 +216,6 @@ impl<K: Kind> SlabList<K> {
     {
         let line = &mut self.lines[(number / self.chunks) as usize];
         line.fix(number % self.chunks);
-    }
-
-    /// Shows that the buffer is out.
-    pub fn meet(&mut self, buf: &mut Buf<K>)
-        requires { IsOf self.old.cells buf.old }
-        ensures out { is_out_in self.old buf.old.number ≡ true }
-        ensures list { self.new ≡ self.old }
-        ensures buf { buf.new ≡ buf.old }
-    {
-        let cell = &mut self.cells[buf.number() as usize];
-        cell.meet(buf);
     }
 
     /// Every count and mark goes.
