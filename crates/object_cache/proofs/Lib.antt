@@ -1,0 +1,8 @@
+pub mod Lists
+pub mod Stocked
+pub mod Freed
+pub mod Rooms
+pub mod Full
+pub mod Counted
+pub mod Tracked
+pub mod Planned

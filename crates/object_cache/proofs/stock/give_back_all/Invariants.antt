@@ -1,0 +1,13 @@
+use Rattle.std.proofs.Common.{◌≡◌}
+use Rattle.object_cache.specs.Stock.{IsStocked}
+use Rattle.object_cache.proofs.Stocked.{WentBack}
+use Rattle.object_cache.proofs.stock.give_back_all.Given as goal
+
+abbrev pub invariant-loop-slab : goal.invariant-loop-slab
+invariant-loop-slab g l =
+    record {
+      chunks : l.list.chunks ≡ l.initial.list.chunks;
+      cells : l.list.cells ≡ l.initial.list.cells;
+      went : WentBack l.slab l.initial.list.slabs l.list.slabs;
+      stocked : IsStocked l.list.slabs l.supply;
+    }
