@@ -150,6 +150,20 @@ impl<K: Kind> ObjectCache<K> {
         self.kind.destruct(object);
     }
 
+    /// How many slabs there are, listed or not.
+    pub fn slabs(&self) -> u32
+        ensures { result ≡ length self.now.state.slabs }
+    {
+        self.stock.list().slabs()
+    }
+
+    /// How many buffers each slab has.
+    pub fn chunks(&self) -> u32
+        ensures { result ≡ self.now.state.chunks }
+    {
+        self.stock.list().chunks()
+    }
+
     /// How many slabs are listed; dead ones are not.
     pub fn slab_count(&self) -> u32
         ensures { result ≡ slab_count self.now.state }
