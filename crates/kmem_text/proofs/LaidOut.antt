@@ -12,21 +12,20 @@ use Rattle.std.proofs.lemmas.Option.{none-some}
 use Rattle.std.proofs.lemmas.Str.Parse.{digit_from_value}
 use Rattle.std.proofs.lemmas.Fmt.{decimal_is_IsNumeral, first_decimal}
 use Rattle.kmem_text.specs.declared.spelling.LineFault.TheVariants.{Worker, Name, Value}
+use Rattle.kmem_text.specs.declared.spelling.LineFault.TheVariants as fault
+use Rattle.kmem_text.specs.declared.command.Tag.{Tag}
 use Rattle.kmem_text.specs.Texts.{is_within, is_name, is_value, is_name_byte, is_value_byte}
 use Rattle.kmem_text.specs.Numbers.{number_within, is_numeral}
-use Rattle.kmem_text.specs.Grammar.{◌>>=◌, is_blank, tokens_in, tokens_of, lines_of, without_empty_last, holds_command, spelled_of, line_of, command_of, fault_or, first_bad, first_bad_of, found_in, spelled_lines, script_of, script_of_lines, name_of, value_of, or_fault}
-use Rattle.kmem_text.specs.Layout.{HasNoLineFeed, as_lines, Spaced, Laid, AreBlanks, IsToken, IsSpaced, IsLaid, laid_text, laid_tokens, command_tokens, IsGoodCommand, IsGoodLine, laid_line, written}
+use Rattle.kmem_text.proofs.Tags.{both}
+use Rattle.kmem_text.specs.Words.{◌>>=◌, or_fault, name_of, value_of, tag_of, one, two, command_of}
+use Rattle.kmem_text.specs.Grammar.{is_blank, tokens_in, tokens_of, lines_of, without_empty_last, holds_command, spelled_of, line_of, fault_or, first_bad, first_bad_of, found_in, spelled_lines, script_of, script_of_lines}
+use Rattle.kmem_text.specs.Layout.{HasNoLineFeed, as_lines, Spaced, Laid, AreBlanks, IsToken, IsSpaced, IsLaid, laid_text, laid_tokens, tag_token, command_tokens, IsGoodCommand, IsGoodLine, laid_line, written}
 use Rattle.kmem_text.specs.declared.spelling.Spelled.{Spelled}
 use Rattle.kmem_text.specs.declared.spelling.Spelled.TheVariants as spelled
 use Rattle.kmem_text.specs.declared.spelling.SpelledLine.{SpelledLine}
 use Rattle.kmem_text.specs.declared.spelling.LineFault.{LineFault}
 
--- what holds of each element of two lists holds of each of both in a row
-both : {X : Type 0} (P : X → Type 0) (xs ys : List X) → AllByRecursion P xs → AllByRecursion P ys → AllByRecursion P (xs ++ ys)
-both P [] ys h k = k
-both P (x ∷ xs) ys h k = (h.0, both P xs ys h.1 k)
-
--- and what follows from it
+-- what follows from what holds of each element
 weaker : {X : Type 0} (P Q : X → Type 0) → ((x : X) → P x → Q x) → (xs : List X) → AllByRecursion P xs → AllByRecursion Q xs
 weaker P Q f [] h = tt
 weaker P Q f (x ∷ xs) h = (f x h.0, weaker P Q f xs h.1)
@@ -264,13 +263,32 @@ name_read name h = ap (λ b. cond b (Ok name) (Err Name)) h
 value_read : (value : List ℕ) → is_value value ≡ true → value_of value ≡ Ok value
 value_read value h = ap (λ b. cond b (Ok value) (Err Value)) h
 
+tag_read : (tag : Tag) → tag.0 < 8 → tag_of (tag_token tag) ≡ Ok tag
+tag_read tag small =
+    let digit : is_within 48 55 (48 + tag.0) ≡ true = grind (arith, nat_tests, small) in
+    let back : 48 + tag.0 - 48 ≡ tag.0 = omega arith in
+    ap (λ b. cond b (Ok (record { 0 = 48 + tag.0 - 48 })) (Err fault.Tag)) digit ∙ (λ i. Ok (record { 0 = back i }))
+
+only_read : {A : Type 0} (read : List ℕ → Result A LineFault) (make : A → Spelled) (token : List ℕ) (x : A) → read token ≡ Ok x → one read make (token ∷ []) ≡ Ok (make x)
+only_read read make token x is = ap (λ r. r >>= λ x. Ok (make x)) is
+
+two_read : {A B : Type 0} (read_first : List ℕ → Result A LineFault) (read_second : List ℕ → Result B LineFault) (make : A → B → Spelled) (first second : List ℕ) (x : A) (y : B) → read_first first ≡ Ok x → read_second second ≡ Ok y → two read_first read_second make (first ∷ second ∷ []) ≡ Ok (make x y)
+two_read read_first read_second make first second x y is and = ap (λ r. r >>= λ x. (read_second second >>= λ y. Ok (make x y))) is ∙ ap (λ r. r >>= λ y. Ok (make x y)) and
+
 command_read : (command : Spelled) → IsGoodCommand command → command_of (command_tokens command) ≡ Ok command
-command_read (spelled.Put name value) h =
-    ap (λ n. n >>= λ n. (value_of value >>= λ v. Ok (spelled.Put n v))) (name_read name h.0)
-    ∙ ap (λ v. v >>= λ v. Ok (spelled.Put name v)) (value_read value h.1)
-command_read (spelled.Get name) h = ap (λ n. n >>= λ n. Ok (spelled.Get n)) (name_read name h)
-command_read (spelled.Del name) h = ap (λ n. n >>= λ n. Ok (spelled.Del n)) (name_read name h)
+command_read (spelled.Put name value) h = two_read name_of value_of spelled.Put name value name value (name_read name h.0) (value_read value h.1)
+command_read (spelled.Get name) h = only_read name_of spelled.Get name name (name_read name h)
+command_read (spelled.Del name) h = only_read name_of spelled.Del name name (name_read name h)
+command_read spelled.First h = refl
+command_read (spelled.Next name) h = only_read name_of spelled.Next name name (name_read name h)
 command_read spelled.Count h = refl
+command_read (spelled.Link name other) h = two_read name_of name_of spelled.Link name other name other (name_read name h.0) (name_read other h.1)
+command_read (spelled.Hold tag name) h = two_read tag_of name_of spelled.Hold (tag_token tag) name tag name (tag_read tag h.0) (name_read name h.1)
+command_read (spelled.Read tag) h = only_read tag_of spelled.Read (tag_token tag) tag (tag_read tag h)
+command_read (spelled.Write tag value) h = two_read tag_of value_of spelled.Write (tag_token tag) value tag value (tag_read tag h.0) (value_read value h.1)
+command_read (spelled.Drop tag) h = only_read tag_of spelled.Drop (tag_token tag) tag (tag_read tag h)
+command_read (spelled.Fix name) h = only_read name_of spelled.Fix name name (name_read name h)
+command_read (spelled.Loose name) h = only_read name_of spelled.Loose name name (name_read name h)
 
 line_read : (workers : ℕ) (line : SpelledLine) → workers < 2 ^ 32 → IsGoodLine workers line → spelled_of workers (decimal line.worker ∷ command_tokens line.command) ≡ Ok (Some line)
 line_read workers line small h =
@@ -308,11 +326,25 @@ word_token word h some =
     let nonempty : 0 < length word = grind (arith, nat_tests, some) in
     (nonempty, above_each is_name_byte name_byte_above word h)
 
+tag_laid : (tag : Tag) → IsToken (tag_token tag)
+tag_laid tag =
+    let above : nat_lt 32 (48 + tag.0) ≡ true = grind (arith, nat_tests) in
+    (omega arith, (above, tt))
+
 command_laid : (command : Spelled) → IsGoodCommand command → AllByRecursion IsToken (command_tokens command)
 command_laid (spelled.Put name value) h = (word_token (codes "put") refl refl, (name_token name h.0, (value_token value h.1, tt)))
 command_laid (spelled.Get name) h = (word_token (codes "get") refl refl, (name_token name h, tt))
 command_laid (spelled.Del name) h = (word_token (codes "del") refl refl, (name_token name h, tt))
+command_laid spelled.First h = (word_token (codes "first") refl refl, tt)
+command_laid (spelled.Next name) h = (word_token (codes "next") refl refl, (name_token name h, tt))
 command_laid spelled.Count h = (word_token (codes "count") refl refl, tt)
+command_laid (spelled.Link name other) h = (word_token (codes "link") refl refl, (name_token name h.0, (name_token other h.1, tt)))
+command_laid (spelled.Hold tag name) h = (word_token (codes "hold") refl refl, (tag_laid tag, (name_token name h.1, tt)))
+command_laid (spelled.Read tag) h = (word_token (codes "read") refl refl, (tag_laid tag, tt))
+command_laid (spelled.Write tag value) h = (word_token (codes "write") refl refl, (tag_laid tag, (value_token value h.1, tt)))
+command_laid (spelled.Drop tag) h = (word_token (codes "drop") refl refl, (tag_laid tag, tt))
+command_laid (spelled.Fix name) h = (word_token (codes "fix") refl refl, (name_token name h, tt))
+command_laid (spelled.Loose name) h = (word_token (codes "loose") refl refl, (name_token name h, tt))
 
 line_laid : (workers : ℕ) (line : SpelledLine) → workers < 2 ^ 32 → IsGoodLine workers line → IsLaid (laid_line line)
 line_laid workers line small h = record {

@@ -3,3 +3,4 @@ pub mod Places
 pub mod Digits
 pub mod Parts
 pub mod LaidOut
+pub mod Tags

@@ -1,5 +1,5 @@
 -- Lines cut off an input, and tokens off a line.
-use Rattle.std.proofs.Common.{◌≡◌, ◌==◌, ℕ, ◌+◌, ◌-◌, ◌<◌, ◌≤◌, suc, Bool, true, false, cond, not, List, [], ◌∷◌, ◌++◌, Option, Some, None, unwrap_or, filter, nat_lt, length, take, drop, refl, sym, ap, ◌∙◌, subst, arith, length-drop, min, Ok, Err, append_assoc, append-nil, length-take-le, length-append, map, Bor, inl, inr}
+use Rattle.std.proofs.Common.{◌≡◌, ◌==◌, ℕ, ◌+◌, ◌-◌, ◌<◌, ◌≤◌, suc, Bool, true, false, cond, not, List, [], ◌∷◌, ◌++◌, Option, Some, None, unwrap_or, filter, nat_lt, if◌then◌else◌, length, take, drop, refl, sym, ap, ◌∙◌, subst, arith, length-drop, min, Ok, Err, append_assoc, append-nil, length-take-le, length-append, map, Bor, inl, inr}
 use Rattle.std.specs.List.{slice_split, onto_first, position, position_or_len}
 use Rattle.std.proofs.lemmas.Option.{cond_some}
 use Rattle.std.proofs.Math.Seq.{take-nil}
@@ -9,9 +9,14 @@ use Rattle.std.proofs.lemmas.Bool.{false≢true, cases_lt}
 use Rattle.std.proofs.lemmas.List.Splits.{slice_split_first, slice_split_none, slice_split-cons_yes, slice_split-cons_no, length-slice_split}
 use Rattle.std.proofs.lemmas.List.Sums.{fails_before_first, prefix_len-le-length}
 use Rattle.std.proofs.lemmas.Bool.Decides.{nat_tests}
-use Rattle.kmem_text.specs.Grammar.{is_blank, tokens_in, tokens_of, lines_of, without_empty_last, spelled_of, fault_or, first_bad, found_in, spelled_lines}
+use Rattle.kmem_text.specs.Numbers.{number_within}
+use Rattle.kmem_text.specs.Words.{◌>>=◌, or_fault, word_of, further_of}
+use Rattle.kmem_text.specs.Grammar.{is_blank, tokens_in, tokens_of, lines_of, without_empty_last, holds_command, spelled_of, fault_or, first_bad, found_in, spelled_lines}
 use Rattle.kmem_text.specs.Tokens.{Cuts}
+use Rattle.kmem_text.specs.declared.words.CommandWord.{CommandWord}
+use Rattle.kmem_text.specs.declared.words.CommandWord.TheVariants.{Put}
 use Rattle.kmem_text.specs.declared.spelling.LineFault.{LineFault}
+use Rattle.kmem_text.specs.declared.spelling.LineFault.TheVariants.{Worker, Command, Words}
 use Rattle.kmem_text.specs.declared.spelling.SpelledLine.{SpelledLine}
 
 -- an input has at least one part, so a part before others is a line
@@ -145,6 +150,15 @@ tokens_all front behind all n none h = sym (append-nil front) ∙ ap (λ ts. fro
 pub tokens_full : (front behind all : List (List ℕ)) (n : ℕ) → 5 ≤ n → front ++ take (5 - n) behind ≡ all → front ≡ all
 tokens_full front behind all n full h = let none : 5 - n ≡ 0 = omega arith in sym (append-nil front) ∙ ap (λ k. front ++ take k behind) (sym none) ∙ h
 
+-- three tokens behind a word are too many
+too_many : (w : CommandWord) (c d e : List ℕ) (more : List (List ℕ)) → further_of w (c ∷ d ∷ e ∷ more) ≡ Err Words
+too_many Put c d e more = refl
+too_many _ c d e more = refl
+
+too_many_of : (w : Option CommandWord) (c d e : List ℕ) (more : List (List ℕ)) → (or_fault Command w >>= λ w. further_of w (c ∷ d ∷ e ∷ [])) ≡ (or_fault Command w >>= λ w. further_of w (c ∷ d ∷ e ∷ more))
+too_many_of None c d e more = refl
+too_many_of (Some w) c d e more = too_many w c d e [] ∙ sym (too_many w c d e more)
+
 -- the first five tokens tell what all do
 pub few_tokens : (workers : ℕ) (tokens : List (List ℕ)) → spelled_of workers (take 5 tokens) ≡ spelled_of workers tokens
 few_tokens workers [] = refl
@@ -152,7 +166,7 @@ few_tokens workers (a ∷ []) = refl
 few_tokens workers (a ∷ b ∷ []) = refl
 few_tokens workers (a ∷ b ∷ c ∷ []) = refl
 few_tokens workers (a ∷ b ∷ c ∷ d ∷ []) = refl
-few_tokens workers (a ∷ b ∷ c ∷ d ∷ e ∷ more) = refl
+few_tokens workers (a ∷ b ∷ c ∷ d ∷ e ∷ more) = ap (λ r. if holds_command (a ∷ []) then ((or_fault Worker (number_within 1 workers a) >>= λ w. (r >>= λ command. Ok (record { worker = w; command = command }))) >>= λ line. Ok (Some line)) else Ok None) (too_many_of (word_of b) c d e more)
 
 -- what five tokens of a line tell
 pub spelled_some : (workers : ℕ) (found : Option SpelledLine) (x : SpelledLine) (tokens : List (List ℕ)) (line : List ℕ) → found ≡ Some x → Ok found ≡ spelled_of workers tokens → tokens ≡ take 5 (tokens_of line) → Ok (Some x) ≡ spelled_of workers (tokens_of line)

@@ -1,5 +1,5 @@
 -- Names in the order of their bytes: each of them is there, and where.
-use Rattle.std.proofs.Common.{◌≡◌, ℕ, ◌+◌, ◌<◌, ◌≤◌, Bool, true, false, ◌||◌, List, [], ◌∷◌, ◌++◌, Ordering, length, get_or, refl, sym, ap, ◌∙◌, subst, arith, inl, inr, length-append}
+use Rattle.std.proofs.Common.{◌≡◌, ℕ, ◌+◌, ◌*◌, ◌<◌, ◌≤◌, Bool, true, false, ◌||◌, List, [], ◌∷◌, ◌++◌, Ordering, length, get_or, refl, sym, ap, ◌∙◌, subst, arith, inl, inr, length-append}
 use Rattle.std.specs.declared.cmp.Ordering.TheVariants.{Less, Equal, Greater}
 use Rattle.std.specs.List.{fold, flat_map, list_any, position_or_len, All, AllByRecursion, HoldsAt}
 use Rattle.std.specs.List.Sorted.{IsStrictlySortedBy, IsSortedBy, IsPartitionPoint}
@@ -17,7 +17,7 @@ use Rattle.std.proofs.lemmas.List.Sums.{position_or_len_is}
 use Rattle.std.proofs.lemmas.List.Elements.{All-from_recursion}
 use Rattle.kmem_text.specs.Grammar.{in_order, named, IsAmongNames}
 use Rattle.kmem_text.specs.declared.spelling.Spelled.{Spelled}
-use Rattle.kmem_text.specs.declared.spelling.Spelled.TheVariants.{Put, Get, Del, Count}
+use Rattle.kmem_text.specs.declared.spelling.Spelled.TheVariants.{Put, Get, Del, Next, Link, Hold, Fix, Loose}
 use Rattle.kmem_text.specs.declared.spelling.SpelledLine.{SpelledLine}
 
 -- the order of names
@@ -106,18 +106,23 @@ length-inserts : (names more : List (List ℕ)) → length (fold (insert_key by_
 length-inserts names [] = omega arith
 length-inserts names (x ∷ more) = omega (arith, length-inserts (insert_key by_bytes names x) more, length-insert names x)
 
-length-named : (command : Spelled) → length (named command) ≤ 1
+length-named : (command : Spelled) → length (named command) ≤ 2
 length-named (Put n v) = omega arith
 length-named (Get n) = omega arith
 length-named (Del n) = omega arith
-length-named Count = omega arith
+length-named (Next n) = omega arith
+length-named (Link n m) = omega arith
+length-named (Hold t n) = omega arith
+length-named (Fix n) = omega arith
+length-named (Loose n) = omega arith
+length-named _ = omega arith
 
-length-all_named : (lines : List SpelledLine) → length (flat_map (λ line. named line.command) lines) ≤ length lines
+length-all_named : (lines : List SpelledLine) → length (flat_map (λ line. named line.command) lines) ≤ 2 * length lines
 length-all_named [] = omega arith
 length-all_named (line ∷ lines) = simp length-append (omega (arith, length-named line.command, length-all_named lines))
 
--- lines name one name each at the most
-pub length-in_order : (lines : List SpelledLine) → length (in_order (flat_map (λ line. named line.command) lines)) ≤ length lines
+-- lines name two names each at the most
+pub length-in_order : (lines : List SpelledLine) → length (in_order (flat_map (λ line. named line.command) lines)) ≤ 2 * length lines
 length-in_order lines = omega (arith, length-inserts [] (flat_map (λ line. named line.command) lines), length-all_named lines)
 
 -- what holds of each name of all lines holds of each name of each line

@@ -1,14 +1,13 @@
 -- The script grammar: how an input is cut into lines and tokens, what a line spells or its first fault, and the script of an input.
-use Rattle.std.specs.Prelude.{◌≡◌, ◌==◌, ◌||◌, ◌+◌, ◌<◌, ℕ, Bool, true, false, not, nat_lt, slice_index, filter, List, [], ◌∷◌, length, map, codes, Option, Some, None, Result, Ok, Err, if◌then◌else◌}
+use Rattle.std.specs.Prelude.{◌≡◌, ◌==◌, ◌||◌, ◌+◌, ◌<◌, ℕ, Bool, true, false, not, nat_lt, slice_index, filter, List, [], ◌∷◌, length, map, Option, Some, None, Result, Ok, Err, if◌then◌else◌}
 use Rattle.std.specs.Str.Lines.{strip_carriage_return}
 use Rattle.std.specs.List.{slice_split, flat_map, fold, list_any, position_or_len}
-use Rattle.std.specs.Str.{bytes_eq}
 use Rattle.std.specs.Cmp.Lexicographic.{slice_cmp}
 use Rattle.std.specs.Ordering.{nat_cmp}
 use Rattle.std.specs.BTreeSet.{insert_key}
 use Rattle.std.specs.BTreeMap.{is_at}
-use Rattle.kmem_text.specs.Texts.{is_name, is_value}
 use Rattle.kmem_text.specs.Numbers.{number_within}
+use Rattle.kmem_text.specs.Words.{◌>>=◌, or_fault, command_of}
 use Rattle.kmem_text.specs.declared.command.NameId.{NameId}
 use Rattle.kmem_text.specs.declared.command.Command.{Command}
 use Rattle.kmem_text.specs.declared.command.Command.TheVariants as command
@@ -18,24 +17,6 @@ use Rattle.kmem_text.specs.declared.spelling.LineFault.TheVariants as fault
 use Rattle.kmem_text.specs.declared.spelling.Spelled.{Spelled}
 use Rattle.kmem_text.specs.declared.spelling.Spelled.TheVariants as spelled
 use Rattle.kmem_text.specs.declared.spelling.SpelledLine.{SpelledLine}
-
-infixl 10 ◌>>=◌
-abbrev pub ◌>>=◌ : {A B E : Type 0} → Result A E → (A → Result B E) → Result B E
-(Ok x) >>= f = f x
-(Err e) >>= f = Err e
-
--- the value, or this fault where there is none
-abbrev pub or_fault : {A : Type 0} → LineFault → Option A → Result A LineFault
-or_fault f (Some x) = Ok x
-or_fault f None = Err f
-
--- a token that is a name
-abbrev pub name_of : List ℕ → Result (List ℕ) LineFault
-name_of token = if is_name token then Ok token else Err fault.Name
-
--- a token that is a value
-abbrev pub value_of : List ℕ → Result (List ℕ) LineFault
-value_of token = if is_value token then Ok token else Err fault.Value
 
 -- a space or a tab
 abbrev pub is_blank : ℕ → Bool
@@ -48,33 +29,6 @@ tokens_in line = filter (λ token. nat_lt 0 (length token)) (slice_split is_blan
 -- the tokens of a line, without one carriage return at its end
 abbrev pub tokens_of : List ℕ → List (List ℕ)
 tokens_of line = tokens_in (strip_carriage_return line)
-
--- the tokens after the word `put`
-abbrev pub put_of : List (List ℕ) → Result Spelled LineFault
-put_of (name ∷ value ∷ []) = do
-  n ← name_of name
-  v ← value_of value
-  Ok (spelled.Put n v)
-put_of _ = Err fault.Words
-
--- the one token after a word that takes a name
-abbrev pub one_name : List (List ℕ) → Result (List ℕ) LineFault
-one_name (name ∷ []) = name_of name
-one_name _ = Err fault.Words
-
--- the tokens after the word `count`
-abbrev pub count_of : List (List ℕ) → Result Spelled LineFault
-count_of [] = Ok spelled.Count
-count_of _ = Err fault.Words
-
--- the command that these tokens spell: the word, the number of further tokens, and each of these from left to right
-abbrev pub command_of : List (List ℕ) → Result Spelled LineFault
-command_of [] = Err fault.Command
-command_of (word ∷ further) =
-    if bytes_eq word (codes "put") then put_of further else
-    (if bytes_eq word (codes "get") then (one_name further >>= λ n. Ok (spelled.Get n)) else
-    (if bytes_eq word (codes "del") then (one_name further >>= λ n. Ok (spelled.Del n)) else
-    (if bytes_eq word (codes "count") then count_of further else Err fault.Command)))
 
 -- the worker and the command that these tokens spell, or the first check that fails
 abbrev pub line_of : ℕ → List (List ℕ) → Result SpelledLine LineFault
@@ -123,12 +77,17 @@ found_in (Err f) = []
 abbrev pub spelled_lines : ℕ → List (List ℕ) → List SpelledLine
 spelled_lines workers lines = flat_map (λ line. found_in (spelled_of workers (tokens_of line))) lines
 
--- the names that a command names
+-- the names that a command names, in their order
 abbrev pub named : Spelled → List (List ℕ)
 named (spelled.Put n v) = n ∷ []
 named (spelled.Get n) = n ∷ []
 named (spelled.Del n) = n ∷ []
-named spelled.Count = []
+named (spelled.Next n) = n ∷ []
+named (spelled.Link n m) = n ∷ m ∷ []
+named (spelled.Hold t n) = n ∷ []
+named (spelled.Fix n) = n ∷ []
+named (spelled.Loose n) = n ∷ []
+named _ = []
 
 -- names in the order of their bytes, each once
 abbrev pub in_order : List (List ℕ) → List (List ℕ)
@@ -147,7 +106,16 @@ abbrev pub placed : List (List ℕ) → Spelled → Command
 placed names (spelled.Put n v) = command.Put (place_of names n) v
 placed names (spelled.Get n) = command.Get (place_of names n)
 placed names (spelled.Del n) = command.Del (place_of names n)
+placed names spelled.First = command.First
+placed names (spelled.Next n) = command.Next (place_of names n)
 placed names spelled.Count = command.Count
+placed names (spelled.Link n m) = command.Link (place_of names n) (place_of names m)
+placed names (spelled.Hold t n) = command.Hold t (place_of names n)
+placed names (spelled.Read t) = command.Read t
+placed names (spelled.Write t v) = command.Write t v
+placed names (spelled.Drop t) = command.Drop t
+placed names (spelled.Fix n) = command.Fix (place_of names n)
+placed names (spelled.Loose n) = command.Loose (place_of names n)
 
 -- a script without where it lies in memory: its names, ascending by bytes, each once, and its lines
 pub record Plain : Type 0 where
@@ -173,4 +141,17 @@ abbrev pub IsWithinNames : ℕ → Command → Type 0
 IsWithinNames names (command.Put n v) = n.0 < names
 IsWithinNames names (command.Get n) = n.0 < names
 IsWithinNames names (command.Del n) = n.0 < names
-IsWithinNames names command.Count = Unit {0}
+IsWithinNames names (command.Next n) = n.0 < names
+IsWithinNames names (command.Link n m) = (n.0 < names) × (m.0 < names)
+IsWithinNames names (command.Hold t n) = n.0 < names
+IsWithinNames names (command.Fix n) = n.0 < names
+IsWithinNames names (command.Loose n) = n.0 < names
+IsWithinNames names _ = Unit {0}
+
+-- the tag of the command is one of 0 to 7
+abbrev pub IsWithinTags : Command → Type 0
+IsWithinTags (command.Hold t n) = t.0 < 8
+IsWithinTags (command.Read t) = t.0 < 8
+IsWithinTags (command.Write t v) = t.0 < 8
+IsWithinTags (command.Drop t) = t.0 < 8
+IsWithinTags _ = Unit {0}

@@ -1,10 +1,11 @@
 -- How a script can be laid out: its lines one behind the other, the blanks between the tokens of a line, and the tokens of a
 -- command (this project's own format).
-use Rattle.std.specs.Prelude.{◌≡◌, ◌==◌, ◌≤◌, ◌<◌, ℕ, Bool, true, false, nat_lt, List, [], ◌∷◌, ◌++◌, length, map, codes, if◌then◌else◌}
+use Rattle.std.specs.Prelude.{◌≡◌, ◌==◌, ◌+◌, ◌≤◌, ◌<◌, ℕ, Bool, true, false, nat_lt, List, [], ◌∷◌, ◌++◌, length, map, codes, if◌then◌else◌}
 use Rattle.std.specs.List.{flat_map, AllByRecursion}
 use Rattle.std.specs.Fmt.{decimal}
 use Rattle.kmem_text.specs.Texts.{is_name, is_value}
 use Rattle.kmem_text.specs.Grammar.{is_blank}
+use Rattle.kmem_text.specs.declared.command.Tag.{Tag}
 use Rattle.kmem_text.specs.declared.spelling.Spelled.{Spelled}
 use Rattle.kmem_text.specs.declared.spelling.Spelled.TheVariants as spelled
 use Rattle.kmem_text.specs.declared.spelling.SpelledLine.{SpelledLine}
@@ -57,19 +58,41 @@ laid_text line = line.lead ++ (line.first ++ (flat_map (λ part. part.blanks ++ 
 abbrev pub laid_tokens : Laid → List (List ℕ)
 laid_tokens line = line.first ∷ map (λ part. part.token) line.further
 
+-- the digit of a tag
+abbrev pub tag_token : Tag → List ℕ
+tag_token tag = (48 + tag.0) ∷ []
+
 -- the tokens of a command
 abbrev pub command_tokens : Spelled → List (List ℕ)
 command_tokens (spelled.Put name value) = codes "put" ∷ name ∷ value ∷ []
 command_tokens (spelled.Get name) = codes "get" ∷ name ∷ []
 command_tokens (spelled.Del name) = codes "del" ∷ name ∷ []
+command_tokens spelled.First = codes "first" ∷ []
+command_tokens (spelled.Next name) = codes "next" ∷ name ∷ []
 command_tokens spelled.Count = codes "count" ∷ []
+command_tokens (spelled.Link name other) = codes "link" ∷ name ∷ other ∷ []
+command_tokens (spelled.Hold tag name) = codes "hold" ∷ tag_token tag ∷ name ∷ []
+command_tokens (spelled.Read tag) = codes "read" ∷ tag_token tag ∷ []
+command_tokens (spelled.Write tag value) = codes "write" ∷ tag_token tag ∷ value ∷ []
+command_tokens (spelled.Drop tag) = codes "drop" ∷ tag_token tag ∷ []
+command_tokens (spelled.Fix name) = codes "fix" ∷ name ∷ []
+command_tokens (spelled.Loose name) = codes "loose" ∷ name ∷ []
 
--- the names are names, and the values are values
+-- the names are names, the values are values, and the tags are 0 to 7
 abbrev pub IsGoodCommand : Spelled → Type 0
 IsGoodCommand (spelled.Put name value) = (is_name name ≡ true) × (is_value value ≡ true)
 IsGoodCommand (spelled.Get name) = is_name name ≡ true
 IsGoodCommand (spelled.Del name) = is_name name ≡ true
+IsGoodCommand spelled.First = Unit {0}
+IsGoodCommand (spelled.Next name) = is_name name ≡ true
 IsGoodCommand spelled.Count = Unit {0}
+IsGoodCommand (spelled.Link name other) = (is_name name ≡ true) × (is_name other ≡ true)
+IsGoodCommand (spelled.Hold tag name) = (tag.0 < 8) × (is_name name ≡ true)
+IsGoodCommand (spelled.Read tag) = tag.0 < 8
+IsGoodCommand (spelled.Write tag value) = (tag.0 < 8) × (is_value value ≡ true)
+IsGoodCommand (spelled.Drop tag) = tag.0 < 8
+IsGoodCommand (spelled.Fix name) = is_name name ≡ true
+IsGoodCommand (spelled.Loose name) = is_name name ≡ true
 
 -- a command of one of so many workers
 pub record IsGoodLine (workers : ℕ) (line : SpelledLine) : Type 0 where

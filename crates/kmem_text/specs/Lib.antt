@@ -1,6 +1,7 @@
 pub mod Padded
 pub mod Texts
 pub mod Numbers
+pub mod Words
 pub mod Grammar
 pub mod Replies
 pub mod Faults

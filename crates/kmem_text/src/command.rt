@@ -2,7 +2,7 @@
 
 use super::{Name, Value};
 
-/// The place of a name in a script's list of names.
+/// The place of a name in a script's list of names, which ascends, so that the order of places is the order of names.
 #[derive(Clone, Copy)]
 pub struct NameId(pub u32);
 
@@ -12,21 +12,62 @@ pub struct Tag(pub u8);
 
 #[derive(Clone, Copy)]
 pub enum Command {
+    /// Gives a name a value: a new record's, or its own record's in place of the old one.
     Put(NameId, Value),
+    /// Asks for the value of a name.
     Get(NameId),
+    /// Takes a name out.
     Del(NameId),
+    /// Asks for the least name.
+    First,
+    /// Asks for the least name that is greater than this one.
+    Next(NameId),
+    /// Asks for the number of names.
     Count,
+    /// Gives the record of the first name the second name too.
+    Link(NameId, NameId),
+    /// Lets a tag of the worker hold the record of a name.
+    Hold(Tag, NameId),
+    /// Asks for the value of the record that a tag holds.
+    Read(Tag),
+    /// Gives the record that a tag holds a value.
+    Write(Tag, Value),
+    /// Lets the record go that a tag holds.
+    Drop(Tag),
+    /// Fixes the record of a name, so that it isn't moved.
+    Fix(NameId),
+    /// Lets the record of a name be moved again.
+    Loose(NameId),
 }
 
 #[derive(Clone, Copy)]
 pub enum Reply {
+    /// The name has a new record.
     New,
+    /// The old value, in place of which there is a new one.
     Was(Value),
+    /// There is no room for a record.
     Full,
+    /// The value of the name that was taken out.
     Gone(Value),
+    /// The value that was asked for.
     Val(Value),
+    /// There is no such name.
     Absent,
+    /// The name that was asked for, and its value.
+    At(NameId, Value),
+    /// How many names there are.
     Number(u32),
+    /// The command was carried out.
+    Done,
+    /// The second name of a link is there already.
+    Taken,
+    /// The record has as many names as a record may have.
+    Many,
+    /// The tag holds a record already.
+    Used,
+    /// The tag holds no record.
+    Idle,
 }
 
 /// One command of a worker. Workers are counted from 1.

@@ -10,6 +10,7 @@ mod script;
 mod spelling;
 mod text;
 mod tokens;
+mod words;
 
 pub use command::{Command, Line, NameId, Reply, Script, Tag};
 pub use laws::{law_layout, law_written};

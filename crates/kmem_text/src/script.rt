@@ -1,12 +1,13 @@
 //! Scripts: an input read into names and lines.
 
 ghost use Rattle.std.specs.Prelude.{◌≡◌, ◌<◌, ◌≤◌, ◌^◌, List, ℕ, length, map, All, None, IfOk, OnOk, IfErr};
-ghost use Rattle.std.specs.List.{flat_map, AllByRecursion};
+ghost use Rattle.std.specs.List.{flat_map, fold, AllByRecursion};
+ghost use Rattle.std.specs.BTreeSet.{insert_key};
 ghost use Rattle.std.specs.List.Sorted.{IsStrictlySortedBy};
 ghost use Rattle.std.specs.Cmp.Lexicographic.{slice_cmp};
 ghost use Rattle.std.specs.Ordering.{nat_cmp};
 ghost use Rattle.kmem_text.specs.Faults.{Explains};
-ghost use Rattle.kmem_text.specs.Grammar.{Plain, script_of, first_bad_of, in_order, place_of, placed, named, IsAmongNames, IsWithinNames};
+ghost use Rattle.kmem_text.specs.Grammar.{Plain, script_of, first_bad_of, in_order, place_of, placed, named, IsAmongNames, IsWithinNames, IsWithinTags};
 
 use super::lines::spelled_lines;
 use super::spelling::{Spelled, SpelledLine};
@@ -53,7 +54,10 @@ pub fn read_script(alloc: Global, bytes: &[u8], workers: u32) -> Result<Script, 
     ensures commands { IfOk result (λ script. length script.lines.items ≤ 100000) }
     ensures error { IfErr result (λ error. Explains error (first_bad_of workers bytes.now) (length (script_of workers bytes.now).lines)) }
     ensures few { IfOk result (λ script. length script.names.items < 2 ^ 32) }
+    ensures sorted { IfOk result (λ script. IsStrictlySortedBy (slice_cmp nat_cmp) script.names.items) }
     ensures places { IfOk result (λ script. All (λ line. IsWithinNames (length script.names.items) line.command) script.lines.items) }
+    ensures tags { IfOk result (λ script. All (λ line. IsWithinTags line.command) script.lines.items) }
+    ensures workers { IfOk result (λ script. All (λ line. (0 < line.worker) × (line.worker ≤ workers)) script.lines.items) }
 {
     let spelled = match spelled_lines(alloc, bytes, workers) {
         Ok(spelled) => spelled,
@@ -71,14 +75,36 @@ fn names_of(alloc: Global, lines: &[SpelledLine]) -> Result<Vec<Name>, AllocErro
 {
     let mut names = BTreeSet::new(alloc);
     for line in lines {
-        match line.command {
-            Spelled::Put(name, _) | Spelled::Get(name) | Spelled::Del(name) => {
-                names.insert(name)?;
-            }
-            Spelled::Count => {}
-        }
+        insert_named(&mut names, &line.command)?;
     }
     names.into_iter().collect(alloc)
+}
+
+/// Puts in the names of a command.
+fn insert_named(names: &mut BTreeSet<Name>, command: &Spelled) -> Result<(), AllocError>
+    ensures { OnOk result (names.new.keys ≡ fold (insert_key (slice_cmp nat_cmp)) names.old.keys (named command.now)) }
+{
+    match command {
+        Spelled::Put(name, _)
+        | Spelled::Get(name)
+        | Spelled::Del(name)
+        | Spelled::Next(name)
+        | Spelled::Hold(_, name)
+        | Spelled::Fix(name)
+        | Spelled::Loose(name) => {
+            names.insert(*name)?;
+        }
+        Spelled::Link(name, other) => {
+            names.insert(*name)?;
+            names.insert(*other)?;
+        }
+        Spelled::First
+        | Spelled::Count
+        | Spelled::Read(_)
+        | Spelled::Write(_, _)
+        | Spelled::Drop(_) => {}
+    }
+    Ok(())
 }
 
 /// The lines, with each name as its place.
@@ -115,7 +141,16 @@ fn placed(command: &Spelled, names: &[Name]) -> Command
         Spelled::Put(name, value) => Command::Put(place_of(names, name), *value),
         Spelled::Get(name) => Command::Get(place_of(names, name)),
         Spelled::Del(name) => Command::Del(place_of(names, name)),
+        Spelled::First => Command::First,
+        Spelled::Next(name) => Command::Next(place_of(names, name)),
         Spelled::Count => Command::Count,
+        Spelled::Link(name, other) => Command::Link(place_of(names, name), place_of(names, other)),
+        Spelled::Hold(tag, name) => Command::Hold(*tag, place_of(names, name)),
+        Spelled::Read(tag) => Command::Read(*tag),
+        Spelled::Write(tag, value) => Command::Write(*tag, *value),
+        Spelled::Drop(tag) => Command::Drop(*tag),
+        Spelled::Fix(name) => Command::Fix(place_of(names, name)),
+        Spelled::Loose(name) => Command::Loose(place_of(names, name)),
     }
 }
 

@@ -1,9 +1,11 @@
 //! What one line of a script spells.
 
 ghost use Rattle.std.specs.Prelude.{◌≡◌, map};
-ghost use Rattle.kmem_text.specs.Grammar.{spelled_of, holds_command, name_of, value_of, put_of, one_name, count_of, command_of, line_of};
+ghost use Rattle.kmem_text.specs.Grammar.{spelled_of, holds_command, line_of};
+ghost use Rattle.kmem_text.specs.Words.{command_of};
 
-use super::{Name, Value, number_within};
+use super::words::{CommandWord, further_of, word_of};
+use super::{Name, Tag, Value, number_within};
 
 /// The first check of a line that fails, in the order of the checks.
 #[derive(Clone, Copy, Debug, PartialEq, Eq)]
@@ -22,7 +24,16 @@ pub enum Spelled {
     Put(Name, Value),
     Get(Name),
     Del(Name),
+    First,
+    Next(Name),
     Count,
+    Link(Name, Name),
+    Hold(Tag, Name),
+    Read(Tag),
+    Write(Tag, Value),
+    Drop(Tag),
+    Fix(Name),
+    Loose(Name),
 }
 
 /// A line whose names are spelled out.
@@ -70,59 +81,11 @@ fn line_of(tokens: &[&[u8]], workers: u32) -> Result<SpelledLine, LineFault>
 fn command_of(tokens: &[&[u8]]) -> Result<Spelled, LineFault>
     ensures { result ≡ command_of (map (λ token. token.now) tokens.now) }
 {
-    let [word, further @ ..] = tokens else {
+    let [token, further @ ..] = tokens else {
         return Err(LineFault::Command);
     };
-    if *word == b"put".as_slice() {
-        put_of(further)
-    } else if *word == b"get".as_slice() {
-        Ok(Spelled::Get(one_name(further)?))
-    } else if *word == b"del".as_slice() {
-        Ok(Spelled::Del(one_name(further)?))
-    } else if *word == b"count".as_slice() {
-        count_of(further)
-    } else {
-        Err(LineFault::Command)
-    }
-}
-
-fn put_of(further: &[&[u8]]) -> Result<Spelled, LineFault>
-    ensures { result ≡ put_of (map (λ token. token.now) further.now) }
-{
-    let [name, value] = further else {
-        return Err(LineFault::Words);
+    let Some(word) = word_of(token) else {
+        return Err(LineFault::Command);
     };
-    let name = name_of(name)?;
-    let value = value_of(value)?;
-    Ok(Spelled::Put(name, value))
-}
-
-fn one_name(further: &[&[u8]]) -> Result<Name, LineFault>
-    ensures { result ≡ one_name (map (λ token. token.now) further.now) }
-{
-    let [name] = further else {
-        return Err(LineFault::Words);
-    };
-    name_of(name)
-}
-
-fn count_of(further: &[&[u8]]) -> Result<Spelled, LineFault>
-    ensures { result ≡ count_of (map (λ token. token.now) further.now) }
-{
-    match further {
-        [] => Ok(Spelled::Count),
-        _ => Err(LineFault::Words),
-    }
-}
-
-fn name_of(token: &[u8]) -> Result<Name, LineFault>
-    ensures { result ≡ name_of token.now }
-{
-    Name::from_bytes(token).ok_or(LineFault::Name)
-}
-
-fn value_of(token: &[u8]) -> Result<Value, LineFault>
-    ensures { result ≡ value_of token.now }
-{
-    Value::from_bytes(token).ok_or(LineFault::Value)
+    further_of(word, further)
 }

@@ -101,7 +101,8 @@ impl Name {
     }
 
     pub fn as_bytes(&self) -> &[u8]
-        ensures { result.now ≡ self.now }
+        ensures text { result.now ≡ self.now }
+        ensures short { length self.now ≤ 32 }
     {
         &self.bytes[..self.len as usize]
     }
