@@ -29,7 +29,7 @@ map_agree f g [] same = refl
 map_agree f g (x ∷ xs) same =
     ap₂ (λ y ys. y ∷ ys) (same 0 x (omega arith)) (map_agree f g xs (λ i d below. same (suc i) d (omega arith)))
 
-count-cons : {X : Type 0} (p : X → Bool) (x : X) (xs : List X) → count_by p (x ∷ xs) ≡ cond (p x) 1 0 + count_by p xs
+pub count-cons : {X : Type 0} (p : X → Bool) (x : X) (xs : List X) → count_by p (x ∷ xs) ≡ cond (p x) 1 0 + count_by p xs
 count-cons p x xs = sum_by-cons (λ y. cond (p y) 1 0) x xs
 
 -- a write that a map doesn't see

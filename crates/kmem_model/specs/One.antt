@@ -1,43 +1,86 @@
--- The output of `one`: all lines of a script in the order of the file on one thread, over so many buffers (this project's own rule).
-use Rattle.std.specs.Prelude.{ℕ, ◌+◌, ◌*◌, ◌==◌, ◌&&◌, List, [], ◌∷◌, ◌++◌, length, count_by, replicate, None, is_none, if◌then◌else◌}
+-- What `one` keeps, and its step: a command in the order of the file on one thread (this project's own rule).
+use Rattle.std.specs.Prelude.{ℕ, ◌+◌, ◌*◌, ◌==◌, ◌&&◌, List, [], ◌∷◌, ◌++◌, length, count_by, Option, Some, None, is_none, is_some, if◌then◌else◌}
 use Rattle.std.specs.List.{flat_map}
+use Rattle.std.specs.Option.{option_map_or}
 use Rattle.kmem_text.specs.declared.command.Command.{Command}
-use Rattle.kmem_text.specs.declared.command.Command.TheVariants.{Put, Get, Del, Count}
+use Rattle.kmem_text.specs.declared.command.Command.TheVariants.{Put, Del}
 use Rattle.kmem_text.specs.declared.command.Line.{Line}
 use Rattle.kmem_text.specs.declared.command.Reply.{Reply}
 use Rattle.kmem_text.specs.declared.command.Reply.TheVariants.{Full}
 use Rattle.kmem_text.specs.Grammar.{Plain}
 use Rattle.kmem_text.specs.Replies.{reply_text}
-use Rattle.kmem_model.specs.History.{Entry}
-use Rattle.kmem_model.specs.RecordMap.{RecordMap, Step, value_of, present_count, step}
+use Rattle.kmem_model.specs.CacheState.{CacheState, is_out, opening}
+use Rattle.kmem_model.specs.CacheOrder.{least_below, wanted}
+use Rattle.kmem_model.specs.CacheEnter.{is_full, enter}
+use Rattle.kmem_model.specs.declared.cache_entry.CacheEntry.{CacheEntry}
+use Rattle.kmem_model.specs.declared.cache_entry.CacheEntry.TheVariants as entry
+use Rattle.kmem_model.specs.Records.{RecordMap, id_of, is_live, no_records}
+use Rattle.kmem_model.specs.RecordStep.{Step, step}
+use Rattle.kmem_model.specs.Heap.{address_in}
+use Rattle.kmem_model.specs.History.{Entry, is_full_due}
 
--- the step where so many names can be present at the most: a put of a further one is refused
-abbrev pub step_within : ℕ → RecordMap → Command → Step
-step_within capacity map (Put name value) = if is_none (value_of map name) && present_count map == capacity then record { reply = Full; map = map } else step map (Put name value)
-step_within capacity map (Get name) = step map (Get name)
-step_within capacity map (Del name) = step map (Del name)
-step_within capacity map Count = step map Count
+-- what `one` keeps: the record map, the state of the cache, and the address of each id that was ever given
+pub record OneState : Type 0 where
+  pub map : RecordMap
+  pub cache : CacheState
+  pub addresses : List ℕ
 
--- the reply to each line
-abbrev pub replies : ℕ → RecordMap → List Line → List Reply
-replies capacity map [] = []
-replies capacity map (line ∷ lines) = (step_within capacity map line.command).reply ∷ replies capacity (step_within capacity map line.command).map lines
+-- how many buffers there are
+abbrev pub buffers_of : CacheState → ℕ
+buffers_of cache = length cache.asked
 
--- the history of these commands and their replies: a command's number counts its worker's commands, from 1
-abbrev pub history_of : ℕ → RecordMap → List Line → List Line → List Entry
-history_of capacity map before [] = []
-history_of capacity map before (line ∷ lines) =
-    record { worker = line.worker; number = count_by (λ earlier. earlier.worker == line.worker) before + 1; command = line.command; reply = (step_within capacity map line.command).reply }
-    ∷ history_of capacity (step_within capacity map line.command).map (before ++ line ∷ []) lines
+-- the id of the record that lives at an address
+abbrev pub id_at : RecordMap → List ℕ → ℕ → Option ℕ
+id_at map addresses b = least_below (length addresses) (λ id. is_live map id && address_in addresses id == b)
 
--- the text of each reply, and a line feed
-abbrev pub reply_lines : List Reply → List ℕ
-reply_lines given = flat_map (λ reply. reply_text reply ++ 10 ∷ []) given
+-- the least leftover: the buffer is out, and no record lives there
+abbrev pub least_leftover : OneState → Option ℕ
+least_leftover s = least_below (buffers_of s.cache) (λ b. is_out s.cache b && is_none (id_at s.map s.addresses b))
 
--- no name is present
-abbrev pub empty_map : ℕ → RecordMap
-empty_map names = replicate names None
+-- the state after an entry that is legal
+abbrev pub entered_by : CacheState → CacheEntry → CacheState
+entered_by cache made = option_map_or (λ next. next) (enter cache made) cache
 
--- the output of `one` for a script
-abbrev pub one_output : ℕ → ℕ → Plain → List ℕ
-one_output slabs chunks script = reply_lines (replies (slabs * chunks) (empty_map (length script.names)) script.lines)
+-- where the object of a further record goes: to the buffer that is allocated next, and where every buffer is out to the least leftover
+abbrev pub address_for : OneState → ℕ
+address_for s = option_map_or (λ b. b) (if is_full s.cache then least_leftover s else wanted s.cache) 0
+
+-- the cache with an object there
+abbrev pub cache_with : OneState → CacheState
+cache_with s = if is_full s.cache then s.cache else entered_by s.cache (entry.Alloc (address_for s))
+
+-- the cache after a command has ended the record with this id, by a del: its buffer is freed at once
+abbrev pub cache_without : OneState → RecordMap → Option ℕ → CacheState
+cache_without s next None = s.cache
+cache_without s next (Some id) = if is_live next id then s.cache else entered_by s.cache (entry.Free (address_in s.addresses id))
+
+-- what a command replies, and the state that it leaves
+pub record OneStep : Type 0 where
+  pub reply : Reply
+  pub state : OneState
+
+-- where the objects are after a command that has a step of the map
+abbrev pub placed_step : OneState → Command → Step → OneStep
+placed_step s (Put name value) next =
+    if is_some (id_of s.map name.0) then record { reply = next.reply; state = record s { map = next.map } }
+    else
+    record { reply = next.reply; state = record { map = next.map; cache = cache_with s; addresses = s.addresses ++ address_for s ∷ [] } }
+placed_step s (Del name) next = record { reply = next.reply; state = record { map = next.map; cache = cache_without s next.map (id_of s.map name.0); addresses = s.addresses } }
+placed_step s _ next = record { reply = next.reply; state = record s { map = next.map } }
+
+-- a command of `one`: a put that finds no room is refused, and each other command is the map's step
+abbrev pub one_step : OneState → ℕ → Command → OneStep
+one_step s worker command =
+    if is_full_due (buffers_of s.cache) s.map command then record { reply = Full; state = s }
+    else placed_step s command (step s.map worker command)
+
+-- how many workers `one` knows, and how many moves may be pending
+abbrev pub one_workers : ℕ
+one_workers = 16
+
+abbrev pub one_limit : ℕ
+one_limit = 64
+
+-- before the first command, over so many slabs of so many buffers, with so many names
+abbrev pub one_start : ℕ → ℕ → ℕ → OneState
+one_start slabs chunks names = record { map = no_records names one_workers; cache = opening slabs chunks one_limit; addresses = [] }

@@ -3,6 +3,7 @@
 /// A plan of the words.
 #[derive(Clone, Copy, Debug, PartialEq, Eq)]
 pub enum Plan {
-    /// `one S C`: all lines on one thread, over S slabs of C buffers.
-    One(u32, u32),
+    /// `one S C` and `one S C EVERY`: all lines on one thread, over S slabs of C buffers, with a settle after so many commands, and after
+    /// none but the last where that is 0.
+    One(u32, u32, Option<u32>),
 }

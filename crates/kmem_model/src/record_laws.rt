@@ -1,11 +1,133 @@
 //! Laws of the definitions. Each is the contract of a function with an empty body.
 
-ghost use Rattle.std.specs.Prelude.{ℕ, List, []};
+ghost use Rattle.std.specs.Prelude.{◌≡◌, ◌≢◌, ◌<◌, ◌*◌, ◌==◌, ◌&&◌, ◌||◌, ◌++◌, ◌∷◌, not, true, false, ℕ, List, [], Option, Some, None, is_some, slice_set, replicate, length};
+ghost use Rattle.kmem_text.specs.declared.command.Command.{Command};
+ghost use Rattle.kmem_text.specs.declared.command.Command.TheVariants.{Put, Del, Hold, Drop};
 ghost use Rattle.kmem_text.specs.declared.command.Line.{Line};
-ghost use Rattle.kmem_model.specs.History.{IsLegal};
-ghost use Rattle.kmem_model.specs.One.{empty_map, history_of};
+ghost use Rattle.kmem_text.specs.declared.command.NameId.{NameId};
+ghost use Rattle.kmem_text.specs.declared.command.Reply.TheVariants.{New, Full, Done, Idle};
+ghost use Rattle.kmem_text.specs.declared.command.Tag.{Tag};
+ghost use Rattle.kmem_text.specs.Replies.{IsReplyWithinNames};
+ghost use Rattle.kmem_model.specs.CacheState.{CacheState, is_out};
+ghost use Rattle.kmem_model.specs.CacheEnter.{is_full, enter};
+ghost use Rattle.kmem_model.specs.declared.cache_entry.CacheEntry.TheVariants.{Alloc, Free};
+ghost use Rattle.kmem_model.specs.SettleWhole.{IsWhole};
+ghost use Rattle.kmem_model.specs.Records.{RecordMap, IsValid, tag_place, id_of, held_at, is_live, live_count, no_records};
+ghost use Rattle.kmem_model.specs.RecordStep.{step, only_looks, leaves_tags, IsInRange, IsValidAs};
+ghost use Rattle.kmem_model.specs.Heap.{HeapState, StandsFor, object_at, hold_at, address_of, address_in, places_of};
+ghost use Rattle.kmem_model.specs.History.{IsLegal, IsFullExactly};
+ghost use Rattle.kmem_model.specs.One.{OneState, one_start, one_workers, buffers_of, least_leftover, one_step};
+ghost use Rattle.kmem_model.specs.OneRun.{run_start, history_of};
+ghost use Rattle.kmem_model.specs.OneStands.{OneStands, OneEnds, IsOnTag, least_left_in, leaves_objects};
 
-/// What `one` replies is a legal history, for every number of buffers and names and for all lines.
-pub fn law_one_is_legal()
-    ensures { (capacity names : ℕ) (lines : List Line) → IsLegal (empty_map names) (history_of capacity (empty_map names) [] lines) }
+/// What `one` replies is a legal history, for all slabs and buffers, any number of names, all settles and all lines, and `full`
+/// comes exactly where the name of a put is absent and as many records live as there are buffers.
+pub fn law_one()
+    ensures legal { (slabs chunks names : ℕ) (every : Option ℕ) (lines : List Line) →
+        IsLegal (no_records names one_workers) (history_of every 1 (run_start slabs chunks names) [] lines) }
+    ensures full { (slabs chunks names : ℕ) (every : Option ℕ) (lines : List Line) →
+        IsFullExactly (slabs * chunks) (no_records names one_workers) (history_of every 1 (run_start slabs chunks names) [] lines) }
 {}
+
+/// Every map that commands make is valid: what names and tags lead to lives, and what lives has a name or a tag. And which tags a command
+/// leaves in use.
+pub fn law_step()
+    ensures start { (names workers : ℕ) → IsValid (no_records names workers) }
+    ensures valid { (map : RecordMap) (worker : ℕ) (command : Command) →
+        IsValid map → IsInRange map worker command → IsValidAs map (step map worker command).map }
+    ensures tags { (map : RecordMap) (worker : ℕ) (command : Command) →
+        leaves_tags command ≡ true → (step map worker command).map.tags ≡ map.tags }
+    ensures held { (map : RecordMap) (worker : ℕ) (tag : Tag) (name : NameId) → (step map worker (Hold tag name)).reply ≡ Done →
+        (id : ℕ) × ((step map worker (Hold tag name)).map.tags ≡ slice_set map.tags (tag_place worker tag.0) (Some id)) }
+    ensures not_held { (map : RecordMap) (worker : ℕ) (tag : Tag) (name : NameId) → (step map worker (Hold tag name)).reply ≢ Done →
+        (step map worker (Hold tag name)).map.tags ≡ map.tags }
+    ensures dropped { (map : RecordMap) (worker : ℕ) (tag : Tag) → is_some (held_at map (tag_place worker tag.0)) ≡ true →
+        (step map worker (Drop tag)).map.tags ≡ slice_set map.tags (tag_place worker tag.0) None }
+{}
+
+/// Which buffers are out after one is allocated or freed.
+pub fn law_out()
+    ensures alloc { (s t : CacheState) (n b : ℕ) → IsWhole s → n < buffers_of s → enter s (Alloc n) ≡ Some t →
+        is_out t b ≡ (b == n || is_out s b) }
+    ensures free { (s t : CacheState) (n b : ℕ) → IsWhole s → enter s (Free n) ≡ Some t →
+        is_out t b ≡ (not (b == n) && is_out s b) }
+{}
+
+/// When there is room for a further record, where a heap stands for what `one` keeps: exactly where fewer records live than there are
+/// buffers.
+pub fn law_room()
+    // the least leftover is the heap's
+    ensures leftover { (s : OneState) (h : HeapState) → OneStands s h → least_left_in h ≡ least_leftover s }
+    ensures empty { (s : OneState) (h : HeapState) (b : ℕ) → OneStands s h → b < buffers_of s.cache → object_at h b ≡ None →
+        live_count s.map < buffers_of s.cache }
+    ensures room { (s : OneState) (h : HeapState) (b : ℕ) → OneStands s h → least_leftover s ≡ Some b →
+        live_count s.map < buffers_of s.cache }
+    ensures no_room { (s : OneState) (h : HeapState) → OneStands s h → is_full s.cache ≡ true → least_leftover s ≡ None →
+        live_count s.map ≡ buffers_of s.cache }
+{}
+
+/// What a heap and a cache do at a command is the step of `one`: with these changes the heap stands for what `one` keeps after it.
+pub fn law_one_step()
+    ensures start { (slabs chunks names : ℕ) (h : HeapState) → 0 < chunks →
+        h.objects ≡ replicate (slabs * chunks) None → StandsFor (no_records names one_workers) [] h → OneStands (one_start slabs chunks names) h }
+    ensures within { (s : OneState) (worker : ℕ) (command : Command) → IsReplyWithinNames (length s.map.names) (one_step s worker command).reply }
+    ensures maps { (s : OneState) (worker : ℕ) (command : Command) → leaves_objects command ≡ true →
+        (one_step s worker command).state.map ≡ (step s.map worker command).map }
+    ensures tags { (s : OneState) (worker : ℕ) (command : Command) → leaves_tags command ≡ true →
+        (one_step s worker command).state.map.tags ≡ s.map.tags }
+    // a command that only looks, one on a tag that isn't in use, and one that leaves the objects where they are
+    ensures looking { (s : OneState) (h : HeapState) (worker : ℕ) (command : Command) →
+        OneStands s h → only_looks command ≡ true →
+        OneEnds (one_step s worker command) (step s.map worker command).reply s.cache h }
+    ensures idle { (s : OneState) (h : HeapState) (worker : ℕ) (command : Command) (tag : Tag) →
+        OneStands s h → hold_at h (tag_place worker tag.0) ≡ None → IsOnTag command tag →
+        OneEnds (one_step s worker command) Idle s.cache h }
+    ensures leaving { (s : OneState) (h new : HeapState) (worker : ℕ) (command : Command) →
+        OneStands s h → leaves_objects command ≡ true → IsInRange s.map worker command →
+        StandsFor (step s.map worker command).map s.addresses new → places_of new ≡ places_of h →
+        OneEnds (one_step s worker command) (step s.map worker command).reply s.cache new }
+    ensures replaced { (s : OneState) (h new : HeapState) (worker : ℕ) (name : NameId) (value : List ℕ) →
+        OneStands s h → IsInRange s.map worker (Put name value) → is_some (address_of h name.0) ≡ true →
+        StandsFor (step s.map worker (Put name value)).map s.addresses new → places_of new ≡ places_of h →
+        OneEnds (one_step s worker (Put name value)) (step s.map worker (Put name value)).reply s.cache new }
+    // a new record in a fresh buffer, in a leftover, and nowhere
+    ensures made { (s : OneState) (h new : HeapState) (t : CacheState) (worker : ℕ) (name : NameId) (value : List ℕ) (b : ℕ) →
+        OneStands s h → IsInRange s.map worker (Put name value) → address_of h name.0 ≡ None →
+        is_full s.cache ≡ false → enter s.cache (Alloc b) ≡ Some t → b < buffers_of s.cache → object_at h b ≡ None →
+        StandsFor (step s.map worker (Put name value)).map (s.addresses ++ b ∷ []) new → places_of new ≡ slice_set (places_of h) b true →
+        OneEnds (one_step s worker (Put name value)) New t new }
+    ensures reused { (s : OneState) (h new : HeapState) (worker : ℕ) (name : NameId) (value : List ℕ) (b : ℕ) →
+        OneStands s h → IsInRange s.map worker (Put name value) → address_of h name.0 ≡ None →
+        is_full s.cache ≡ true → least_left_in h ≡ Some b →
+        StandsFor (step s.map worker (Put name value)).map (s.addresses ++ b ∷ []) new → places_of new ≡ places_of h →
+        OneEnds (one_step s worker (Put name value)) New s.cache new }
+    ensures refused { (s : OneState) (h : HeapState) (worker : ℕ) (name : NameId) (value : List ℕ) →
+        OneStands s h → address_of h name.0 ≡ None → is_full s.cache ≡ true → least_left_in h ≡ None →
+        OneEnds (one_step s worker (Put name value)) Full s.cache h }
+    // a del whose record lives on, or that finds none, and one whose record ends
+    ensures kept { (s : OneState) (h new : HeapState) (worker : ℕ) (name : NameId) →
+        OneStands s h → IsInRange s.map worker (Del name) →
+        ((id : ℕ) → id_of s.map name.0 ≡ Some id → is_live (step s.map worker (Del name)).map id ≡ true) →
+        StandsFor (step s.map worker (Del name)).map s.addresses new → places_of new ≡ places_of h →
+        OneEnds (one_step s worker (Del name)) (step s.map worker (Del name)).reply s.cache new }
+    ensures ended { (s : OneState) (h new : HeapState) (t : CacheState) (worker : ℕ) (name : NameId) (b : ℕ) →
+        OneStands s h → IsInRange s.map worker (Del name) → address_of h name.0 ≡ Some b →
+        ((id : ℕ) → id_of s.map name.0 ≡ Some id → (is_live (step s.map worker (Del name)).map id ≡ false) × (address_in s.addresses id ≡ b)) →
+        enter s.cache (Free b) ≡ Some t →
+        StandsFor (step s.map worker (Del name)).map s.addresses new → places_of new ≡ slice_set (places_of h) b false →
+        OneEnds (one_step s worker (Del name)) (step s.map worker (Del name)).reply t new }
+{}
+
+#[cfg(test)]
+mod tests {
+    use super::{law_one, law_one_step, law_out, law_room, law_step};
+
+    #[test]
+    fn laws_can_be_called() {
+        law_one();
+        law_one_step();
+        law_step();
+        law_out();
+        law_room();
+    }
+}

@@ -1,0 +1,187 @@
+-- The output of `one`: all lines of a script in the order of the file on one thread, with settles between them (this project's own rule).
+use Rattle.std.specs.Prelude.{ℕ, zero, suc, ◌+◌, ◌*◌, ◌-◌, ◌%◌, ◌^◌, ◌==◌, ◌&&◌, Bool, true, false, nat_lt, List, [], ◌∷◌, ◌++◌, length, map, count_by, min, Option, Some, None, if◌then◌else◌}
+use Rattle.std.specs.List.{flat_map, range_with_len}
+use Rattle.std.specs.Option.{option_map_or}
+use Rattle.kmem_text.specs.declared.command.Line.{Line}
+use Rattle.kmem_text.specs.declared.command.Reply.{Reply}
+use Rattle.kmem_text.specs.Grammar.{Plain}
+use Rattle.kmem_text.specs.Replies.{reply_text}
+use Rattle.kmem_model.specs.CacheState.{CacheState, is_out, slab_count, free_count}
+use Rattle.kmem_model.specs.declared.cache_entry.CacheEntry.TheVariants.{Free}
+use Rattle.kmem_model.specs.declared.cache_entry.Said.{Said}
+use Rattle.kmem_model.specs.declared.cache_entry.Said.TheVariants.{Yes, No, Later, DontNeed, DontKnow}
+use Rattle.kmem_model.specs.Records.{RecordMap, Record, record_at, tag_count, live_count}
+use Rattle.kmem_model.specs.Says.{addresses_after}
+use Rattle.kmem_model.specs.Settle.{Stage, EndedMove, Course}
+use Rattle.kmem_model.specs.SettleMeasure.{settled}
+use Rattle.kmem_model.specs.Report.{MoveCounts, Report, report_text}
+use Rattle.kmem_model.specs.History.{Entry}
+use Rattle.kmem_model.specs.One.{OneState, buffers_of, id_at, least_leftover, entered_by, one_step, one_start}
+
+-- A settle
+
+-- the record with this id is fixed
+abbrev pub is_fixed : RecordMap → ℕ → Bool
+is_fixed m id = option_map_or (λ (r : Record). r.fixed) (record_at m id) false
+
+-- the right answer about an object of this record, or of none
+abbrev pub answer_by : RecordMap → Option ℕ → Said
+answer_by m None = DontNeed
+answer_by m (Some id) = if is_fixed m id then No else (if nat_lt 0 (tag_count m id) then Later else Yes)
+
+-- the right answer about a buffer
+abbrev pub answer_at : OneState → ℕ → Said
+answer_at s b = if is_out s.cache b then answer_by s.map (id_at s.map s.addresses b) else DontKnow
+
+-- what a settle works on
+abbrev pub stage_of : OneState → Stage
+stage_of s = record { cache = s.cache; says = map (answer_at s) (range_with_len 0 (buffers_of s.cache)) }
+
+-- the addresses after these moves, one after another
+abbrev pub addresses_moved : List ℕ → List EndedMove → List ℕ
+addresses_moved addresses [] = addresses
+addresses_moved addresses (move ∷ moves) = addresses_moved (addresses_after addresses move.from move.to move.said) moves
+
+-- what `one` keeps, with the moves of all settles so far
+pub record OneRun : Type 0 where
+  pub state : OneState
+  pub moves : List EndedMove
+
+-- after the settle that takes this course
+abbrev pub run_after : OneRun → Course → OneRun
+run_after run course =
+    record {
+      state = record { map = run.state.map; cache = course.stage.cache; addresses = addresses_moved run.state.addresses course.moves };
+      moves = run.moves ++ course.moves;
+    }
+
+-- after a settle
+abbrev pub settled_run : OneRun → OneRun
+settled_run run = option_map_or (run_after run) (settled (stage_of run.state)) run
+
+-- The lines
+
+-- a settle is due after the command with this number, counted from 1
+abbrev pub is_settle_due : Option ℕ → ℕ → Bool
+is_settle_due None number = false
+is_settle_due (Some every) number = nat_lt 0 every && number % every == 0
+
+-- after the command with this number
+abbrev pub line_run : Option ℕ → ℕ → OneRun → Line → OneRun
+line_run every number run line =
+    let next = record run { state = (one_step run.state line.worker line.command).state } in
+    if is_settle_due every number then settled_run next else next
+
+-- the reply to each line, where the first of them has this number
+abbrev pub replies : Option ℕ → ℕ → OneRun → List Line → List Reply
+replies every number run [] = []
+replies every number run (line ∷ lines) =
+    (one_step run.state line.worker line.command).reply ∷ replies every (number + 1) (line_run every number run line) lines
+
+-- after these lines
+abbrev pub lines_run : Option ℕ → ℕ → OneRun → List Line → OneRun
+lines_run every number run [] = run
+lines_run every number run (line ∷ lines) = lines_run every (number + 1) (line_run every number run line) lines
+
+-- the history of these commands and their replies: a command's number in it counts its worker's commands, from 1
+abbrev pub history_of : Option ℕ → ℕ → OneRun → List Line → List Line → List Entry
+history_of every number run before [] = []
+history_of every number run before (line ∷ lines) =
+    record { worker = line.worker; number = count_by (λ earlier. earlier.worker == line.worker) before + 1; command = line.command; reply = (one_step run.state line.worker line.command).reply }
+    ∷ history_of every (number + 1) (line_run every number run line) (before ++ line ∷ []) lines
+
+-- The end
+
+-- without the leftover at this address
+abbrev pub without_leftover : OneState → ℕ → OneState
+without_leftover s b = record s { cache = entered_by s.cache (Free b) }
+
+-- without the leftovers with the least addresses, at most so many
+abbrev pub without_leftovers : ℕ → OneState → OneState
+without_leftovers zero s = s
+without_leftovers (suc n) s = option_map_or (λ b. without_leftovers n (without_leftover s b)) (least_leftover s) s
+
+-- after all leftovers are freed, least address first, and a last settle
+abbrev pub run_ended : OneRun → OneRun
+run_ended run = settled_run (record run { state = without_leftovers (buffers_of run.state.cache) run.state })
+
+-- The report
+
+-- how many of the moves ended with such an answer; a count stands still at 2^64 - 1
+abbrev pub ended_with : (Said → Bool) → List EndedMove → ℕ
+ended_with is moves = min (count_by (λ move. is move.said) moves) (2 ^ 64 - 1)
+
+-- the answers, one by one
+abbrev pub is_yes : Said → Bool
+is_yes Yes = true
+is_yes _ = false
+
+abbrev pub is_no : Said → Bool
+is_no No = true
+is_no _ = false
+
+abbrev pub is_later : Said → Bool
+is_later Later = true
+is_later _ = false
+
+abbrev pub is_dont_need : Said → Bool
+is_dont_need DontNeed = true
+is_dont_need _ = false
+
+abbrev pub is_dont_know : Said → Bool
+is_dont_know DontKnow = true
+is_dont_know _ = false
+
+-- how these moves ended. None ends unasked, since each is ended as soon as it began
+abbrev pub counts_of : List EndedMove → MoveCounts
+counts_of moves =
+    record {
+      yes = ended_with is_yes moves;
+      no = ended_with is_no moves;
+      later = ended_with is_later moves;
+      dont_need = ended_with is_dont_need moves;
+      dont_know = ended_with is_dont_know moves;
+      gone = 0;
+    }
+
+-- no move
+abbrev pub no_moves : MoveCounts
+no_moves = record { yes = 0; no = 0; later = 0; dont_need = 0; dont_know = 0; gone = 0 }
+
+-- the report at the end: no mover was at work
+abbrev pub report_of : OneRun → Report
+report_of run =
+    record {
+      buffers = length run.state.cache.slabs * run.state.cache.chunks;
+      live = live_count run.state.map;
+      slabs = slab_count run.state.cache;
+      free = free_count run.state.cache;
+      scans = 0;
+      begun = 0;
+      moves = no_moves;
+      settled = counts_of run.moves;
+      states = run.state.cache.slabs;
+    }
+
+-- The output
+
+-- the text of each reply, and a line feed
+abbrev pub reply_lines : List (List ℕ) → List Reply → List ℕ
+reply_lines names given = flat_map (λ reply. reply_text names reply ++ 10 ∷ []) given
+
+-- before the first command
+abbrev pub run_start : ℕ → ℕ → ℕ → OneRun
+run_start slabs chunks names = record { state = one_start slabs chunks names; moves = [] }
+
+-- what follows the replies: the report, where a number of commands between settles is given
+abbrev pub report_after : Option ℕ → OneRun → List ℕ
+report_after None run = []
+report_after (Some every) run = report_text (report_of (run_ended run))
+
+-- what is written for these lines from such a moment on: the replies, and then the report
+abbrev pub run_text : Option ℕ → List (List ℕ) → OneRun → List Line → List ℕ
+run_text every names start lines = reply_lines names (replies every 1 start lines) ++ report_after every (lines_run every 1 start lines)
+
+-- the output of `one` for a script
+abbrev pub one_output : ℕ → ℕ → Option ℕ → Plain → List ℕ
+one_output slabs chunks every script = run_text every script.names (run_start slabs chunks (length script.names)) script.lines
