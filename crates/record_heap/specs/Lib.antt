@@ -1,1 +1,9 @@
-pub mod PlainHeap
+pub mod View
+pub mod Objects
+pub mod Shelves
+pub mod Tags
+pub mod Changes
+pub mod Kept
+pub mod Puts
+pub mod Answers
+pub mod Bench

@@ -1,9 +1,15 @@
-//! Where the records are kept.
+//! Where the records are kept: objects in buffers of a cache, found by address.
 #![tactic(auto)]
 
-mod plain_heap;
+mod cell;
+mod heap;
+mod hold;
+mod parts;
+mod shelf;
 
-pub use plain_heap::PlainHeap;
+pub use cell::{RecordCell, RecordKind};
+pub use heap::{Offer, PutEnd, RecordHeap};
+pub use hold::Hold;
 
 #[cfg(test)]
 mod tests;

@@ -1,0 +1,12 @@
+pub mod Lists
+pub mod Tied
+pub mod Stands
+pub mod Moved
+pub mod Kept
+pub mod Stubs
+pub mod Shelved
+pub mod Steps
+pub mod Names
+pub mod Holds
+pub mod Puts
+pub mod Benches

@@ -1,0 +1,23 @@
+use Rattle.std.proofs.Common.{◌≡◌, ℕ, ◌+◌, ◌-◌, ◌*◌, ◌<◌, ◌≤◌, Bool, true, false, Option, Some, None, List, [], ◌∷◌, ◌++◌, length, get_or, set, map, replicate, is_some, option_map, count_by, sym, ap, ap₂, ◌∙◌, refl, subst, arith}
+use Rattle.std.proofs.lemmas.List.Sums.{count_by-le-length}
+use Rattle.kmem_model.specs.Records.{RecordMap, IsValid, id_of, held_at, tag_place, least_name, no_records}
+use Rattle.kmem_model.specs.Heap.{Object, HeapState, StandsFor, address_of, hold_at, object_at, places_of, blank}
+use Rattle.record_heap.specs.View.{HeapView, HoldState}
+use Rattle.record_heap.specs.Kept.{IsKept}
+use Rattle.record_heap.proofs.Steps.{of_name, value_there, get_some}
+use Rattle.record_heap.proofs.heap.RecordHeap.get.Goals as goal
+
+pub value-requires : goal.value-requires
+value-requires c =
+    let f = c.self.inside in
+    let leads : address_of f.parts.heap c.args.name.0 ≡ Some c.in-Some.b = sym c.address.ensures ∙ c.in-Some.is in
+    value_there f.parts.heap c.in-Some.b (of_name f.parts.heap f.present f.records f.leftovers c.self.invariant c.args.name.0 c.in-Some.b leads)
+
+pub returns-in-Some : goal.returns-in-Some
+returns-in-Some c =
+    let f = c.self.inside in
+    let leads : address_of f.parts.heap c.args.name.0 ≡ Some c.in-Some.b = sym c.address.ensures ∙ c.in-Some.is in
+    record {
+      reply = λ m a valid s.
+          get_some m a f.parts.heap valid (subst (λ (v : HeapView). StandsFor m a v.heap) (sym c.self.view_is) s) c.args.name.0 c.in-Some.b c.value.result leads c.value.ensures;
+    }

@@ -1,0 +1,55 @@
+use Rattle.std.proofs.Common.{◌≡◌, ℕ, ◌+◌, ◌-◌, ◌*◌, ◌<◌, ◌≤◌, Bool, true, false, Option, Some, None, List, [], ◌∷◌, ◌++◌, length, get_or, set, map, replicate, is_some, option_map, count_by, sym, ap, ap₂, ◌∙◌, refl, subst, arith}
+use Rattle.std.proofs.lemmas.List.Sums.{count_by-le-length}
+use Rattle.kmem_model.specs.Records.{RecordMap, IsValid, id_of, held_at, tag_place, least_name, no_records}
+use Rattle.kmem_model.specs.Heap.{Object, HeapState, StandsFor, address_of, hold_at, object_at, places_of, blank}
+use Rattle.record_heap.specs.View.{HeapView, HoldState}
+use Rattle.record_heap.specs.Kept.{IsKept}
+use Rattle.kmem_text.specs.declared.command.Reply.{Reply}
+use Rattle.kmem_text.specs.declared.command.Reply.TheVariants.{Was}
+use Rattle.kmem_model.specs.RecordStep.{put_step}
+use Rattle.kmem_buf.specs.Buffers.{BufState}
+use Rattle.record_heap.specs.declared.heap.put.PutEnd.TheVariants.{Replied}
+use Rattle.record_heap.specs.Objects.{with_value}
+use Rattle.record_heap.specs.Changes.{value_in, valued}
+use Rattle.record_heap.specs.Puts.{offered}
+use Rattle.record_heap.proofs.Steps.{of_name, value_there, valued_kept, places_changed}
+use Rattle.record_heap.proofs.Holds.{put_stands}
+use Rattle.record_heap.proofs.Puts.{was_put}
+use Rattle.record_heap.proofs.heap.RecordHeap.replace.Goals as goal
+
+pub value-old-requires : goal.value-old-requires
+value-old-requires c =
+    let f = c.self.inside in
+    let h = f.parts.heap in
+    let leads : address_of h c.args.name.0 ≡ Some c.args.b = ap (λ (v : HeapView). address_of v.heap c.args.name.0) c.self.view_is ∙ c.requires in
+    value_there h c.args.b (of_name h f.present f.records f.leftovers c.self.invariant c.args.name.0 c.args.b leads)
+
+pub invariant_of-self : goal.invariant_of-self
+invariant_of-self c =
+    let f = c.self.inside in
+    let h = f.parts.heap in
+    let leads : address_of h c.args.name.0 ≡ Some c.args.b = ap (λ (v : HeapView). address_of v.heap c.args.name.0) c.self.view_is ∙ c.requires in
+    let it = of_name h f.present f.records f.leftovers c.self.invariant c.args.name.0 c.args.b leads in
+    subst (λ (k : HeapState). IsKept k f.present f.records f.leftovers) (sym (ap (λ (v : HeapView). v.heap) c.set_value.ensures))
+    (valued_kept h f.present f.records f.leftovers c.self.invariant c.args.b it c.args.value)
+
+pub returns-clause-put : goal.returns-clause-put
+returns-clause-put c =
+    let f = c.self.inside in
+    let h = f.parts.heap in
+    let n = c.args.name.0 in
+    let b = c.args.b in
+    let leads : address_of h n ≡ Some b = ap (λ (v : HeapView). address_of v.heap n) c.self.view_is ∙ c.requires in
+    let it = of_name h f.present f.records f.leftovers c.self.invariant n b leads in
+    record {
+      back = (c.value-old.result, ap (λ (o : Option (BufState Object)). Replied (Was c.value-old.result) o) c.offered.ensures);
+      reply = λ m a valid s.
+          ap₂ (λ (q : Reply) (o : Option (BufState Object)). Replied q o)
+          (was_put m a h valid (subst (λ (v : HeapView). StandsFor m a v.heap) (sym c.self.view_is) s) n b c.args.value c.value-old.result leads c.value-old.ensures) c.offered.ensures;
+      stands = λ m a valid s.
+          subst (λ (k : HeapState). StandsFor (put_step m n c.args.value (id_of m n)).map a k) (sym (ap (λ (v : HeapView). v.heap) c.set_value.ensures))
+          (put_stands h f.present f.records f.leftovers c.self.invariant b it m a valid (subst (λ (v : HeapView). StandsFor m a v.heap) (sym c.self.view_is) s) n leads c.args.value);
+      places =
+          ap (λ (v : HeapView). places_of v.heap) c.set_value.ensures
+          ∙ (places_changed h.objects b (with_value c.args.value) ∙ ap (λ (v : HeapView). places_of v.heap) c.self.view_is);
+    }

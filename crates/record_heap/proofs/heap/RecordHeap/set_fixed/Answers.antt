@@ -1,0 +1,37 @@
+use Rattle.std.proofs.Common.{◌≡◌, ℕ, ◌+◌, ◌-◌, ◌<◌, ◌≤◌, Bool, true, false, Option, Some, None, List, [], ◌∷◌, length, get_or, set, map, is_some, option_map, count_by, sym, ap, ap₂, ◌∙◌, refl, subst, arith}
+use Rattle.std.proofs.lemmas.List.Sums.{count_by-le-length}
+use Rattle.kmem_model.specs.Records.{RecordMap, IsValid, id_of, held_at, tag_place}
+use Rattle.kmem_model.specs.Heap.{Object, HeapState, StandsFor, address_of, hold_at, object_at, places_of, blank}
+use Rattle.record_heap.specs.View.{HeapView, HoldState}
+use Rattle.record_heap.specs.Kept.{IsKept}
+use Rattle.kmem_model.specs.RecordStep.{fix_step}
+use Rattle.record_heap.specs.Objects.{with_fixed}
+use Rattle.record_heap.specs.Changes.{fixed_at}
+use Rattle.record_heap.proofs.Steps.{of_name, places_changed, fixed_kept}
+use Rattle.record_heap.proofs.Holds.{fix_stands}
+use Rattle.record_heap.proofs.heap.RecordHeap.set_fixed.Goals as goal
+
+pub invariant_of-self : goal.invariant_of-self
+invariant_of-self c =
+    let f = c.self.inside in
+    let h = f.parts.heap in
+    let leads : address_of h c.args.name.0 ≡ Some c.in-Some.b = sym c.address.ensures ∙ c.in-Some.is in
+    let it = of_name h f.present f.records f.leftovers c.self.invariant c.args.name.0 c.in-Some.b leads in
+    subst (λ (k : HeapState). IsKept k f.present f.records f.leftovers) (sym (ap (λ (v : HeapView). v.heap) c.set_fixed.ensures))
+    (fixed_kept h f.present f.records f.leftovers c.self.invariant c.in-Some.b it c.args.fixed)
+
+pub returns-clause-stands : goal.returns-clause-stands
+returns-clause-stands c = λ m a valid s.
+    let f = c.self.inside in
+    let h = f.parts.heap in
+    let leads : address_of h c.args.name.0 ≡ Some c.in-Some.b = sym c.address.ensures ∙ c.in-Some.is in
+    let it = of_name h f.present f.records f.leftovers c.self.invariant c.args.name.0 c.in-Some.b leads in
+    let now : StandsFor m a h = subst (λ (v : HeapView). StandsFor m a v.heap) (sym c.self.view_is) s in
+    subst (λ (k : HeapState). StandsFor (fix_step m c.args.fixed (id_of m c.args.name.0)).map a k) (sym (ap (λ (v : HeapView). v.heap) c.set_fixed.ensures))
+    (fix_stands h f.present f.records f.leftovers c.self.invariant c.in-Some.b it m a valid now c.args.name.0 leads c.args.fixed)
+
+pub returns-clause-places : goal.returns-clause-places
+returns-clause-places c =
+    let h = c.self.inside.parts.heap in
+    ap (λ (v : HeapView). places_of v.heap) c.set_fixed.ensures
+    ∙ (places_changed h.objects c.in-Some.b (with_fixed c.args.fixed) ∙ ap (λ (v : HeapView). places_of v.heap) c.self.view_is)

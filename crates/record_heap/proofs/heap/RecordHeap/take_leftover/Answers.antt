@@ -1,0 +1,40 @@
+use Rattle.std.proofs.Common.{◌≡◌, ◌≢◌, ℕ, ◌+◌, ◌-◌, ◌*◌, ◌<◌, ◌≤◌, ◌==◌, Bool, true, false, Option, Some, None, List, [], ◌∷◌, ◌++◌, length, get_or, set, map, replicate, is_some, option_map, count_by, sym, ap, ap₂, ◌∙◌, refl, subst, arith}
+use Rattle.std.proofs.lemmas.List.Sums.{count_by-le-length}
+use Rattle.kmem_model.specs.Records.{RecordMap, IsValid, id_of, held_at, tag_place, least_name, no_records}
+use Rattle.kmem_model.specs.Heap.{Object, HeapState, StandsFor, address_of, hold_at, object_at, places_of, has_record, is_leftover, blank}
+use Rattle.record_heap.specs.View.{HeapView, HoldState}
+use Rattle.record_heap.specs.Kept.{IsKept}
+use Rattle.std.proofs.lemmas.List.{map-set}
+use Rattle.kmem_buf.specs.Buffers.{BufState}
+use Rattle.kmem_buf.specs.Homes.{IsOf}
+use Rattle.record_heap.specs.View.{least_leftover}
+use Rattle.record_heap.proofs.Kept.{leftover_blank, some_is}
+use Rattle.record_heap.proofs.Puts.{without_kept, without_stands}
+use Rattle.record_heap.proofs.heap.RecordHeap.take_leftover.Goals as goal
+
+pub invariant_of-self : goal.invariant_of-self
+invariant_of-self c =
+    let f = c.self.inside in
+    subst (λ (k : HeapState). IsKept k f.present f.records (f.leftovers - 1)) (sym (ap (λ (v : HeapView). v.heap) c.take_out.ensures.parts))
+    (without_kept f.parts.heap f.present f.records f.leftovers c.self.invariant c.in_ok-b.b (ap (λ (v : HeapView). is_leftover (object_at v.heap c.in_ok-b.b)) c.self.view_is ∙ c.in_ok-b.ensures.found))
+
+pub returns-clause-buf : goal.returns-clause-buf
+returns-clause-buf c =
+    let f = c.self.inside in
+    let is = leftover_blank f.parts.heap f.present f.records f.leftovers c.self.invariant c.in_ok-b.b (ap (λ (v : HeapView). is_leftover (object_at v.heap c.in_ok-b.b)) c.self.view_is ∙ c.in_ok-b.ensures.found) in (
+      sym c.in_ok-b.ensures.least ∙ ap Some (sym c.take_out.ensures.buf.0),
+      some_is c.take_out.result.object blank (sym c.take_out.ensures.object ∙ is),
+      subst (λ (v : HeapView). IsOf v.home.cells c.take_out.result) c.self.view_is c.take_out.ensures.buf.1,
+    )
+
+pub returns-clause-stands : goal.returns-clause-stands
+returns-clause-stands c = λ m a valid s.
+    let f = c.self.inside in
+    subst (λ (k : HeapState). StandsFor m a k) (sym (ap (λ (v : HeapView). v.heap) c.take_out.ensures.parts))
+    (without_stands f.parts.heap f.present f.records f.leftovers c.self.invariant c.in_ok-b.b (ap (λ (v : HeapView). is_leftover (object_at v.heap c.in_ok-b.b)) c.self.view_is ∙ c.in_ok-b.ensures.found) m a (subst (λ (v : HeapView). StandsFor m a v.heap) (sym c.self.view_is) s))
+
+pub returns-clause-places : goal.returns-clause-places
+returns-clause-places c =
+    let f = c.self.inside in
+    ap (λ (v : HeapView). places_of v.heap) c.take_out.ensures.parts
+    ∙ (map-set is_some f.parts.heap.objects c.in_ok-b.b None ∙ ap₂ (λ (v : HeapView) (i : ℕ). set (places_of v.heap) i false) c.self.view_is (sym c.take_out.ensures.buf.0))
