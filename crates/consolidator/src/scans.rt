@@ -1,0 +1,88 @@
+//! Settling.
+
+ghost use Rattle.std.specs.Prelude.{◌≡◌, false};
+ghost use Rattle.kmem_model.specs.CacheState.{has_pending};
+ghost use Rattle.kmem_model.specs.Says.{stage_in, AreInBuffers};
+ghost use Rattle.kmem_model.specs.Settle.{gains};
+ghost use Rattle.kmem_model.specs.SettleWhole.{IsWhole, IsWholeStage, IsSettled};
+ghost use Rattle.object_cache.specs.Modes.{said_of};
+ghost use Rattle.consolidator.specs.Settles.{ScansTo, SettlesTo};
+
+use crate::marks::is_rest_marked;
+use crate::tally::{count, no_moves};
+use kmem_buf::Verdict;
+use kmem_model::{law_moves, law_scans, law_settle, law_stage};
+use object_cache::{ObjectCache, Tally};
+use record_heap::{RecordHeap, RecordKind};
+
+/// Settles the cache whose buffers the heap takes: forgets all counts and marks, and makes desperate scans in which each move is ended at
+/// once by the heap's answer, until a scan has nothing more to gain. Takes no memory. A scan costs a pass over the slabs for each of its
+/// moves, and clears what was noted of each buffer.
+pub fn settle(cache: &mut ObjectCache<RecordKind>, heap: &mut RecordHeap) -> Tally
+    requires whole { IsWhole cache.old.state }
+    requires calm { has_pending cache.old.state ≡ false }
+    requires buffers { AreInBuffers cache.old.state heap.old.heap }
+    requires home { heap.old.home ≡ cache.old.home }
+
+    // The course that the cache and the heap take, by its moves; the heap stands for the same map.
+    ensures settles { SettlesTo cache.old cache.new heap.old heap.new result }
+    // What it leaves.
+    ensures settled { IsSettled (stage_in cache.new.state heap.new.heap) }
+    ensures whole { IsWhole cache.new.state × (has_pending cache.new.state ≡ false) }
+    ensures buffers { AreInBuffers cache.new.state heap.new.heap }
+    ensures home { cache.new.home ≡ cache.old.home }
+{
+    law_stage();
+    law_scans();
+    law_settle();
+    let mut tally = no_moves();
+    cache.forget();
+    'scans: loop {
+        let gained = scan(cache, heap, &mut tally);
+        let rest = is_rest_marked(cache);
+        if !gained && rest {
+            return tally;
+        }
+    }
+}
+
+// Makes a desperate scan to its end, and answers whether it freed an old buffer.
+fn scan(cache: &mut ObjectCache<RecordKind>, heap: &mut RecordHeap, tally: &mut Tally) -> bool
+    requires whole { IsWholeStage (stage_in cache.old.state heap.old.heap) }
+    requires home { heap.old.home ≡ cache.old.home }
+    ensures scan { ScansTo cache.old.state cache.new.state heap.old heap.new tally.old tally.new result }
+    ensures home { cache.new.home ≡ cache.old.home }
+{
+    law_stage();
+    law_moves();
+    cache.start_scan(true);
+    let mut gained = false;
+    'moves: loop {
+        match cache.begin() {
+            Err(_) => {
+                return gained;
+            }
+            Ok(job) => {
+                let Some(kept) = cache.still(job) else {
+                    return gained;
+                };
+                let (pending, buf) = kept.part();
+                let answer = heap.answer_move(pending.from(), buf);
+                let verdict = answer.verdict();
+                gained = gained || frees_old(verdict);
+                count(tally, verdict);
+                cache.end(pending, answer);
+            }
+        }
+    }
+}
+
+// Whether the answer hands the old buffer back.
+fn frees_old(verdict: Verdict) -> bool
+    ensures { result ≡ gains (said_of verdict) }
+{
+    match verdict {
+        Verdict::Yes | Verdict::DontNeed => true,
+        Verdict::No | Verdict::Later | Verdict::DontKnow => false,
+    }
+}

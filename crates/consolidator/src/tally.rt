@@ -1,0 +1,50 @@
+//! Counting moves by how they ended.
+
+ghost use Rattle.std.specs.Prelude.{◌≡◌, []};
+ghost use Rattle.object_cache.specs.Modes.{said_of};
+ghost use Rattle.consolidator.specs.Tallies.{counted, tally_of, tally_sum};
+
+use kmem_buf::Verdict;
+use object_cache::Tally;
+
+/// No move.
+pub fn no_moves() -> Tally
+    ensures { result ≡ tally_of [] }
+{
+    Tally {
+        begun: 0,
+        yes: 0,
+        no: 0,
+        later: 0,
+        dont_need: 0,
+        dont_know: 0,
+        gone: 0,
+    }
+}
+
+/// Counts a move that was begun and ended by this answer. A count that is at its greatest stays.
+pub fn count(tally: &mut Tally, verdict: Verdict)
+    ensures { tally.new ≡ counted tally.old (said_of verdict) }
+{
+    tally.begun = tally.begun.saturating_add(1);
+    match verdict {
+        Verdict::Yes => tally.yes = tally.yes.saturating_add(1),
+        Verdict::No => tally.no = tally.no.saturating_add(1),
+        Verdict::Later => tally.later = tally.later.saturating_add(1),
+        Verdict::DontNeed => tally.dont_need = tally.dont_need.saturating_add(1),
+        Verdict::DontKnow => tally.dont_know = tally.dont_know.saturating_add(1),
+    }
+}
+
+/// Counts as many moves more as another tally does, by how they ended. A count that would pass its greatest stays there.
+pub fn add(tally: &mut Tally, more: &Tally)
+    ensures { tally.new ≡ tally_sum tally.old more.now }
+{
+    tally.begun = tally.begun.saturating_add(more.begun);
+    tally.yes = tally.yes.saturating_add(more.yes);
+    tally.no = tally.no.saturating_add(more.no);
+    tally.later = tally.later.saturating_add(more.later);
+    tally.dont_need = tally.dont_need.saturating_add(more.dont_need);
+    tally.dont_know = tally.dont_know.saturating_add(more.dont_know);
+    tally.gone = tally.gone.saturating_add(more.gone);
+}
