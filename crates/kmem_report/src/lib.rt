@@ -1,0 +1,10 @@
+//! The report on a run: its lines, written from a cache and from counts.
+#![tactic(auto)]
+
+mod lines;
+mod report;
+
+pub use report::write_report;
+
+#[cfg(test)]
+mod tests;
