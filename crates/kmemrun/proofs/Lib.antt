@@ -1,1 +1,5 @@
 pub mod Pages
+pub mod Benches
+pub mod Freeing
+pub mod Reports
+pub mod Serves

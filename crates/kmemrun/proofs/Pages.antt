@@ -1,11 +1,13 @@
 -- Replies put into a page, one behind the other.
-use Rattle.std.proofs.Common.{◌≡◌, ℕ, ◌+◌, ◌≤◌, ◌<◌, List, [], ◌∷◌, ◌++◌, length, take, drop, sym, ap, ◌∙◌, arith, append_assoc, length-append, length-take-le, set, get_or, Option}
+use Rattle.std.proofs.Common.{◌≡◌, ℕ, ◌+◌, ◌≤◌, ◌<◌, List, [], ◌∷◌, ◌++◌, length, take, drop, refl, Some, None, sym, ap, ◌∙◌, subst, arith, append_assoc, length-append, length-take-le, set, get_or, Option}
+use Rattle.std.proofs.lemmas.List.{append-nil}
 use Rattle.std.proofs.lemmas.List.{take-take, take_at, take_more_set, drop_more}
+use Rattle.std.specs.Io.KnownBytes.{Appends}
 use Rattle.kmem_io.specs.Streams.{AppendsFront, Appends-then, AppendsFront-behind}
 use Rattle.kmem_text.specs.declared.command.Line.{Line}
 use Rattle.kmem_text.specs.Replies.{reply_text}
-use Rattle.kmem_model.specs.RecordMap.{RecordMap}
-use Rattle.kmem_model.specs.One.{step_within, replies, reply_lines}
+use Rattle.kmem_model.specs.One.{one_step}
+use Rattle.kmem_model.specs.OneRun.{OneRun, line_run, replies, lines_run, reply_lines}
 use Rattle.kmemrun.specs.Pages.{MovesOut}
 
 regroup : (a b c d e : List ℕ) → (a ++ b) ++ ((c ++ d) ++ e) ≡ a ++ ((b ++ c) ++ (d ++ e))
@@ -35,9 +37,27 @@ pub last_moved : (a b c : Option (List ℕ)) (all page rest : List ℕ) → Move
 last_moved a b c all page rest p q = AppendsFront-behind a b c p.0 page rest all p.1 p.2 q
 
 -- the replies to the lines from a place on begin with the reply to the line there
-pub next_reply : (capacity : ℕ) (map : RecordMap) (lines : List Line) (i : ℕ) (line : Line) → i < length lines → line ≡ get_or lines i line → reply_lines (replies capacity map (drop i lines)) ≡ (reply_text (step_within capacity map line.command).reply ++ 10 ∷ []) ++ reply_lines (replies capacity (step_within capacity map line.command).map (drop (i + 1) lines))
-next_reply capacity map lines i line small is = ap (λ ls. reply_lines (replies capacity map ls)) (drop_more lines i line small ∙ ap (λ (l : Line). l ∷ drop (i + 1) lines) (sym is))
+pub next_reply : (every : Option ℕ) (names : List (List ℕ)) (run : OneRun) (lines : List Line) (i : ℕ) (line : Line) → i < length lines → line ≡ get_or lines i line →
+    reply_lines names (replies every (i + 1) run (drop i lines)) ≡ (reply_text names (one_step run.state line.worker line.command).reply ++ 10 ∷ []) ++ reply_lines names (replies every (i + 1 + 1) (line_run every (i + 1) run line) (drop (i + 1) lines))
+next_reply every names run lines i line small is = ap (λ ls. reply_lines names (replies every (i + 1) run ls)) (drop_more lines i line small ∙ ap (λ (l : Line). l ∷ drop (i + 1) lines) (sym is))
+
+-- and so do the runs
+pub next_run : (every : Option ℕ) (run : OneRun) (lines : List Line) (i : ℕ) (line : Line) → i < length lines → line ≡ get_or lines i line →
+    lines_run every (i + 1) run (drop i lines) ≡ lines_run every (i + 1 + 1) (line_run every (i + 1) run line) (drop (i + 1) lines)
+next_run every run lines i line small is = ap (λ ls. lines_run every (i + 1) run ls) (drop_more lines i line small ∙ ap (λ (l : Line). l ∷ drop (i + 1) lines) (sym is))
 
 -- a text that n bytes hold is no longer
 pub no_longer : (put text rest : List ℕ) (n : ℕ) → put ≡ text ++ rest → length put ≡ n → length text ≤ n
 no_longer put text rest n is size = omega (arith, ap length is, length-append text rest, size)
+
+-- and where all of it is written, all is
+pub last_whole : (a b c : Option (List ℕ)) (all page : List ℕ) → MovesOut a b all page → Appends b c page → Appends a c all
+last_whole a b c all page p q = subst (Appends a c) p.2 (Appends-then a b c p.0 page p.1 q)
+
+-- nothing is written yet
+pub nothing_moved : (a : Option (List ℕ)) (all : List ℕ) → MovesOut a a all all
+nothing_moved a all = ([], nothing a, refl)
+  where
+    nothing : (b : Option (List ℕ)) → Appends b b []
+    nothing None = tt
+    nothing (Some xs) = sym (append-nil xs)

@@ -1,12 +1,15 @@
 -- What a run of the program writes, or which status it ends with, by its words and its input (this project's own rule).
-use Rattle.std.specs.Prelude.{◌≡◌, ◌≢◌, ◌<◌, ◌⊎◌, ◌↔◌, ℕ, nat_lt, List, [], ◌++◌, length, codes, MatchOption, Option, Some, None, IsNone, IfSome, Result, Ok, Err, IsOk, IsOkAnd, IsErrOf, if◌then◌else◌}
+use Rattle.std.specs.Prelude.{◌≡◌, ◌≢◌, ◌<◌, ◌*◌, ◌⊎◌, ◌↔◌, ℕ, nat_lt, List, [], ◌++◌, length, codes, MatchOption, Option, Some, None, IsNone, IfSome, Result, Ok, Err, IsOk, IsOkAnd, IsErrOf, if◌then◌else◌}
 use Rattle.std.specs.Io.KnownBytes.{Appends, Keeps, IsAtEnd}
 use Rattle.kmem_io.specs.Streams.{AppendsFront}
 use Rattle.std.specs.Fmt.{decimal}
 use Rattle.kmem_text.specs.Grammar.{Plain, script_of, first_bad_of}
 use Rattle.kmem_text.specs.declared.spelling.LineFault.{LineFault}
 use Rattle.kmem_text.specs.declared.spelling.LineFault.TheVariants as at
-use Rattle.kmem_model.specs.One.{one_output}
+use Rattle.kmem_model.specs.Records.{no_records}
+use Rattle.kmem_model.specs.History.{IsLegal, IsFullExactly}
+use Rattle.kmem_model.specs.One.{one_workers}
+use Rattle.kmem_model.specs.OneRun.{run_start, history_of, one_output}
 use Rattle.kmem_model.specs.declared.plan.Plan.{Plan}
 use Rattle.kmem_model.specs.declared.plan.Plan.TheVariants.{One}
 use Rattle.kmemrun.specs.declared.status.Status.{Status}
@@ -16,13 +19,20 @@ use Rattle.kmemrun.specs.declared.fault.Fault.TheVariants as fault
 use Rattle.kmemrun.specs.declared.fault.BadLine.{BadLine}
 
 -- the output for a script; or its first bad line, or that it has too many commands
-abbrev pub script_answer : ℕ → ℕ → Option (ℕ × LineFault) → Plain → Result (List ℕ) Fault
-script_answer slabs chunks (Some bad) script = Err (fault.BadScript bad.0 bad.1)
-script_answer slabs chunks None script = if nat_lt 100000 (length script.lines) then Err fault.Limit else Ok (one_output slabs chunks script)
+abbrev pub script_answer : ℕ → ℕ → Option ℕ → Option (ℕ × LineFault) → Plain → Result (List ℕ) Fault
+script_answer slabs chunks every (Some bad) script = Err (fault.BadScript bad.0 bad.1)
+script_answer slabs chunks every None script = if nat_lt 100000 (length script.lines) then Err fault.Limit else Ok (one_output slabs chunks every script)
 
 -- what `one` writes for an input of at most 16 MiB, or why it writes nothing
-abbrev pub one_answer : ℕ → ℕ → List ℕ → Result (List ℕ) Fault
-one_answer slabs chunks bytes = if nat_lt 16777216 (length bytes) then Err fault.Limit else script_answer slabs chunks (first_bad_of 16 bytes) (script_of 16 bytes)
+abbrev pub one_answer : ℕ → ℕ → Option ℕ → List ℕ → Result (List ℕ) Fault
+one_answer slabs chunks every bytes = if nat_lt 16777216 (length bytes) then Err fault.Limit else script_answer slabs chunks every (first_bad_of 16 bytes) (script_of 16 bytes)
+
+-- the replies to a script are a legal history, and `full` comes in it exactly where as many records live as there are buffers
+abbrev pub IsLawful : ℕ → ℕ → Option ℕ → Plain → Type 0
+IsLawful slabs chunks every script =
+    let start = no_records (length script.names) one_workers in
+    let history = history_of every 1 (run_start slabs chunks (length script.names)) [] script.lines in
+    IsLegal start history × IsFullExactly (slabs * chunks) start history
 
 -- what holds of the line and the check of a bad script
 abbrev pub IfBadScript : Fault → (ℕ → LineFault → Type 0) → Type 0
@@ -55,7 +65,12 @@ or_status (Err f) = Err (status_of f)
 -- what a plan writes for an input, or the status that it ends with
 abbrev pub plan_answer : Option Plan → List ℕ → Result (List ℕ) Status
 plan_answer None bytes = Err status.Usage
-plan_answer (Some (One slabs chunks)) bytes = or_status (one_answer slabs chunks bytes)
+plan_answer (Some (One slabs chunks every)) bytes = or_status (one_answer slabs chunks every bytes)
+
+-- the replies that a plan writes for an input are a legal history
+abbrev pub IsPlanLawful : Option Plan → List ℕ → Type 0
+IsPlanLawful None bytes = Unit {0}
+IsPlanLawful (Some (One slabs chunks every)) bytes = IsLawful slabs chunks every (script_of 16 bytes)
 
 -- the number of a status
 abbrev pub status_code : Status → ℕ

@@ -3,6 +3,7 @@
 
 ghost use Rattle.kmem_io.specs.Streams.{CanRise};
 
+mod bench;
 mod fault;
 mod one;
 mod status;

@@ -1,3 +1,6 @@
+//! Runs over streams in memory.
+mod settles;
+
 use crate::Open;
 use crate::status::Status;
 use crate::top::top;
@@ -62,7 +65,24 @@ fn worked_rows(rt: HostRuntime) -> Result<(), Fail> {
         b"# c\r\n1 put a x\r\n\r\n1 get a".as_slice(),
         b"new\nval x\n".as_slice(),
     );
-    for (words, input, output) in [first, empty, full, replaces, longest, comments] {
+    let outlives = (
+        ["one", "1", "1"],
+        b"1 put a x\n1 hold 0 a\n1 del a\n1 read 0\n1 put b y\n1 drop 0\n1 put b y\n1 read 0\n".as_slice(),
+        b"new\nok\ndel x\nval x\nfull\nok\nnew\nidle\n".as_slice(),
+    );
+    let in_order = (
+        ["one", "4", "4"],
+        b"1 put b x\n1 put d y\n1 next b\n1 next d\n1 next c\n1 next zz\n1 first\n".as_slice(),
+        b"new\nnew\nat d y\nnone\nat d y\nnone\nat b x\n".as_slice(),
+    );
+    let tags = (
+        ["one", "4", "4"],
+        b"1 put a x\n1 hold 0 a\n1 hold 0 a\n1 hold 1 zz\n1 drop 0\n1 drop 0\n1 write 0 q\n2 read 0\n".as_slice(),
+        b"new\nok\nused\nnone\nok\nidle\nidle\nidle\n".as_slice(),
+    );
+    for (words, input, output) in [
+        first, empty, full, replaces, longest, comments, outlives, in_order, tags,
+    ] {
         let ran = run_in_memory(&rt, rt.alloc(), words.as_slice(), input)?;
         assert_eq!(rt; ran.status, Status::Fine);
         assert_eq!(rt; ran.out.bytes(), output);
@@ -91,6 +111,8 @@ fn usage(rt: HostRuntime) -> Result<(), Fail> {
     }
     assert!(rt; refused(&rt, rt.alloc(), &["one", "2"])?);
     assert!(rt; refused(&rt, rt.alloc(), &["one", "2", "2", "-1"])?);
+    assert!(rt; refused(&rt, rt.alloc(), &["one", "2", "2", "100001"])?);
+    assert!(rt; refused(&rt, rt.alloc(), &["one", "2", "2", "1", "1"])?);
     assert!(rt; refused(&rt, rt.alloc(), &[])?);
     Ok(())
 }
@@ -186,9 +208,24 @@ fn bad_lines(rt: HostRuntime) -> Result<(), Fail> {
             b"1 get a".as_slice(),
         ),
         (
-            b"1 link a b".as_slice(),
+            b"1 links a b".as_slice(),
             b"kmemrun: line 1: command\n".as_slice(),
-            b"1 put a b".as_slice(),
+            b"1 link a b".as_slice(),
+        ),
+        (
+            b"1 read".as_slice(),
+            b"kmemrun: line 1: words\n".as_slice(),
+            b"1 read 0".as_slice(),
+        ),
+        (
+            b"1 hold 8 A".as_slice(),
+            b"kmemrun: line 1: tag\n".as_slice(),
+            b"1 hold 7 a".as_slice(),
+        ),
+        (
+            b"1 write 00 x".as_slice(),
+            b"kmemrun: line 1: tag\n".as_slice(),
+            b"1 write 0 x".as_slice(),
         ),
         (
             b"1 put a".as_slice(),

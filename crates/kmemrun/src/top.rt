@@ -1,10 +1,10 @@
 //! The top call: words and an input to an output, a line on standard error, and a status.
 
-ghost use Rattle.std.specs.Prelude.{◌≡◌, ◌≢◌, ◌<◌, ◌↔◌, map, IsOk, IsOkAnd, IsErrOf, IfSome, IsSome, IsNone};
+ghost use Rattle.std.specs.Prelude.{◌≡◌, ◌≢◌, ◌<◌, ◌↔◌, ℕ, List, map, Some, IsOk, IsOkAnd, IsErrOf, IfSome, IsSome, IsNone};
 ghost use Rattle.std.specs.Io.KnownBytes.{Appends, Keeps, IsAtEnd};
 ghost use Rattle.kmem_io.specs.Streams.{CanRise, AppendsFront};
 ghost use Rattle.kmem_model.specs.Words.{plan_of, IsInRange};
-ghost use Rattle.kmemrun.specs.Answers.{plan_answer, status_text, bad_line_text, told_text, Ends, IsDueStatus, IsFineStatusButForStreams};
+ghost use Rattle.kmemrun.specs.Answers.{plan_answer, status_text, bad_line_text, told_text, Ends, IsPlanLawful, IsDueStatus, IsFineStatusButForStreams};
 ghost use Rattle.kmem_text.specs.Grammar.{first_bad_of};
 
 use crate::fault::{BadLine, Fault};
@@ -12,7 +12,7 @@ use crate::one::serve_one;
 use crate::status::{Ended, Status};
 use crate::words::plan_of;
 use kmem_io::{Gate, Sink, Source, write_all};
-use kmem_model::Plan;
+use kmem_model::{Plan, law_one};
 use std::alloc::Global;
 use std::sync::Wait;
 use std::thread::Threads;
@@ -36,6 +36,9 @@ pub fn top<T: Wait + Threads + Sync, R: Source, W: Sink, E: Sink, G: Gate>(
     ensures text { result.status ≡ Status.Fine → IfSome (R.left input.old) (λ bytes.
         IsOkAnd (plan_answer (plan_of (map (λ word. word.now) words.now)) bytes) (λ text. Appends (W.written out.old) (W.written out.new) text)) }
     ensures end { result.status ≡ Status.Fine → IsAtEnd (R.left input.new) }
+
+    // The replies in it are those that a plain map of records gives, and `full` comes exactly where as many records live as there are buffers.
+    ensures lawful { (bytes : List ℕ) → R.left input.old ≡ Some bytes → IsPlanLawful (plan_of (map (λ word. word.now) words.now)) bytes }
 
     // When each other status comes.
     ensures usage { (result.status ≡ Status.Usage) ↔ IsNone (plan_of (map (λ word. word.now) words.now)) }
@@ -65,6 +68,7 @@ pub fn top<T: Wait + Threads + Sync, R: Source, W: Sink, E: Sink, G: Gate>(
         IfSome (first_bad_of 16 bytes) (λ bad. AppendsFront (E.written err.old) (E.written err.new) (bad_line_text bad.0 bad.1))) }
     ensures one_bad { result.status ≡ Status.BadScript → IfSome (R.left input.old) (λ bytes. IsSome (first_bad_of 16 bytes)) }
 {
+    law_one();
     let _ = rt;
     let _ = gate;
     let (status, bad) = carry_out(alloc, plan_of(words), input, out);
@@ -85,10 +89,10 @@ fn carry_out<R: Source, W: Sink>(
     requires ranges { IfSome plan IsInRange }
     ensures { Ends plan (R.left input.old) (R.left input.new) (R.faults input.old) (R.faults input.new) (W.written out.old) (W.written out.new) (W.faults out.old) (W.faults out.new) result.0 result.1 }
 {
-    let Some(Plan::One(slabs, chunks)) = plan else {
+    let Some(Plan::One(slabs, chunks, every)) = plan else {
         return (Status::Usage, None);
     };
-    match serve_one(alloc, slabs, chunks, None, input, out) {
+    match serve_one(alloc, slabs, chunks, every, input, out) {
         Ok(()) => (Status::Fine, None),
         Err(Fault::BadScript { line, fault }) => (Status::BadScript, Some(BadLine { line, fault })),
         Err(Fault::Read) => (Status::ReadFault, None),

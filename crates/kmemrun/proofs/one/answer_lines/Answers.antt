@@ -1,31 +1,83 @@
-use Rattle.std.proofs.Common.{◌≡◌, ◌+◌, ◌<◌, ◌++◌, ◌∷◌, [], ℕ, List, length, get_or, take, drop, sym, ap, ◌∙◌, arith}
+use Rattle.std.proofs.Common.{◌≡◌, ◌<◌, ◌+◌, ◌++◌, ℕ, List, [], ◌∷◌, length, take, drop, refl, sym, ap, ◌∙◌, subst, arith}
 use Rattle.kmem_text.specs.Replies.{reply_text}
-use Rattle.kmem_model.specs.One.{step_within, replies, reply_lines}
 use Rattle.kmem_text.specs.declared.command.Reply.{Reply}
-use Rattle.record_heap.specs.PlainHeap.{Bounded}
-use Rattle.kmemrun.proofs.Pages.{one_more, last_moved, next_reply}
+use Rattle.kmem_model.specs.OneRun.{OneRun, replies, reply_lines, lines_run, line_run}
+use Rattle.kmemrun.specs.Bench.{RunsAt, IsGoodLine}
+use Rattle.kmemrun.proofs.Pages.{one_more, last_moved, last_whole, next_reply, next_run, nothing_moved}
+use Rattle.std.proofs.lemmas.Result.{on_ok_weaker}
+use Rattle.std.proofs.Math.ListN.{drop_of_length-le}
+use Rattle.std.proofs.lemmas.List.{append-nil}
+use Rattle.kmem_text.specs.Replies.{IsReplyWithinNames}
+use Rattle.kmemrun.specs.Pages.{MovesOut}
+use Rattle.kmemrun.proofs.one.answer_lines.Given.{Over}
 use Rattle.kmemrun.proofs.one.answer_lines.Goals as goal
 
-pub returns-in_err-at-clause-front : goal.returns-in_err-at-clause-front
-returns-in_err-at-clause-front g c = last_moved _ _ _ _ _ _ c.loop-line.invariant.written c.in_err-at.ensures.front
-
-pub loop-line-preserved : goal.loop-line-preserved
-loop-line-preserved g c =
-    let lines = c.args.script.now.lines.items in
-    let i = c.loop-line.line-index in
-    let line = c.line-item.result in
-    let heap = c.loop-line.heap in
-    let small : i < length lines = omega (arith, c.loop-line-test.true, ap length c.deref-line-items.ensures.value) in
-    let here : line ≡ get_or lines i line = c.line-item.is ∙ ap (λ ls. get_or ls i line) c.deref-line-items.ensures.value in
-    let next = next_reply heap.capacity heap.map lines i line small here in
-    let put = c.put_line-at.ensures.text ∙ ap (λ (reply : Reply). take c.in_ok-at.at c.loop-line.page ++ (reply_text reply ++ 10 ∷ [])) c.run_command-reply.ensures.reply in
-    let after = ap (λ (h : Bounded). reply_lines (replies h.capacity h.map (drop (i + 1) lines))) c.run_command-reply.ensures.after in
+pub loop-index-init : goal.loop-index-init
+loop-index-init g c =
     record {
-      at = c.put_line-at.ensures.end;
-      names = c.run_command-reply.ensures.names ∙ c.loop-line.invariant.names;
-      faults = c.in_ok-at.ensures.counted ∙ c.loop-line.invariant.faults;
-      written = one_more _ _ _ _ _ _ _ _ _ _ c.loop-line.invariant.written c.in_ok-at.ensures.moved put (next ∙ ap (λ (xs : List ℕ). (reply_text (step_within heap.capacity heap.map line.command).reply ++ 10 ∷ []) ++ xs) (sym after));
+      at = omega arith;
+      names = c.requires.names;
+      faults = refl;
+      stands = c.requires.stands;
+      written = λ start at. record { run = start; runs = at; written = nothing_moved _ _; rest = refl };
     }
 
+pub answer-reply-requires-clause-line : goal.answer-reply-requires-clause-line
+answer-reply-requires-clause-line g c =
+    let lines = c.args.script.now.lines.items in
+    let line = c.index.result.now in
+    let small : c.loop-index.index < length lines = omega (arith, c.loop-index-test.true, c.len-index-end.ensures) in
+    subst (λ n. IsGoodLine n line) (sym c.loop-index.invariant.names)
+    (subst (IsGoodLine (length c.args.script.now.names.items)) (sym c.index.ensures) (c.requires.within c.loop-index.index line small))
+
+pub put_line-at-requires-clause-names : goal.put_line-at-requires-clause-names
+put_line-at-requires-clause-names g c = subst (λ n. IsReplyWithinNames n c.answer-reply.result) c.loop-index.invariant.names c.answer-reply.ensures.within
+
+pub loop-index-preserved : goal.loop-index-preserved
+loop-index-preserved g c =
+    let names = c.args.script.now.names.items in
+    let lines = c.args.script.now.lines.items in
+    let i = c.loop-index.index in
+    let line = c.index.result.now in
+    let small : i < length lines = omega (arith, c.loop-index-test.true, c.len-index-end.ensures) in
+    record {
+      at = c.put_line-at.ensures.end;
+      names = c.answer-reply.ensures.names ∙ c.loop-index.invariant.names;
+      faults = c.in_ok-at.ensures.counted ∙ c.loop-index.invariant.faults;
+      stands = c.answer-reply.ensures.stands;
+      written = λ start given.
+          let on = c.loop-index.invariant.written start given in
+          let does = c.answer-reply.ensures.answers on.run on.runs in
+          record {
+            run = line_run c.args.every (i + 1) on.run line;
+            runs = does.runs;
+            written = one_more _ _ _ _ _ _ _ _ _ _ on.written c.in_ok-at.ensures.moved
+                (c.put_line-at.ensures.text ∙ ap (λ (reply : Reply). take c.in_ok-at.at c.loop-index.page ++ (reply_text names reply ++ 10 ∷ [])) does.replies)
+                (next_reply c.args.every names on.run lines i line small c.index.ensures);
+            rest = on.rest ∙ next_run c.args.every on.run lines i line small c.index.ensures;
+          };
+    }
+
+pub returns-in_err-at-clause-front : goal.returns-in_err-at-clause-front
+returns-in_err-at-clause-front g c = λ start given. last_moved _ _ _ _ _ _ (c.loop-index.invariant.written start given).written c.in_err-at.ensures.front
+
 pub returns-clause-front : goal.returns-clause-front
-returns-clause-front g c = last_moved _ _ _ _ _ _ c.loop-line.invariant.written c.write_all.ensures.front
+returns-clause-front g c = λ start given. last_moved _ _ _ _ _ _ (c.loop-index.invariant.written start given).written c.write_all.ensures.front
+
+-- no line is left
+none_left : (g : Over) (c : goal.After-write_all g) → drop c.loop-index.index c.args.script.now.lines.items ≡ []
+none_left g c = drop_of_length-le c.args.script.now.lines.items (omega (arith, c.loop-index-test.false, c.len-index-end.ensures))
+
+pub returns-clause-whole : goal.returns-clause-whole
+returns-clause-whole g c = on_ok_weaker c.write_all.result (λ whole start given.
+    let on = c.loop-index.invariant.written start given in
+    last_whole _ _ _ _ _
+    (subst (λ (xs : List ℕ). MovesOut (g.W.Sink.written c.args.out.now) (g.W.Sink.written c.loop-index.out) (reply_lines c.args.script.now.names.items (replies c.args.every 1 start c.args.script.now.lines.items)) xs)
+    (ap (λ ls. take c.loop-index.at c.loop-index.page ++ reply_lines c.args.script.now.names.items (replies c.args.every (c.loop-index.index + 1) on.run ls)) (none_left g c) ∙ append-nil (take c.loop-index.at c.loop-index.page))
+    on.written)
+    whole) c.write_all.ensures.whole
+
+pub returns-clause-runs : goal.returns-clause-runs
+returns-clause-runs g c = on_ok_weaker c.write_all.result (λ whole start given.
+    let on = c.loop-index.invariant.written start given in
+    subst (λ (run : OneRun). RunsAt run c.loop-index.bench) (sym (on.rest ∙ ap (lines_run c.args.every (c.loop-index.index + 1) on.run) (none_left g c))) on.runs) c.write_all.ensures.whole

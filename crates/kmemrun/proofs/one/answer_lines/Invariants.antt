@@ -1,13 +1,14 @@
-use Rattle.std.proofs.Common.{◌≡◌, ◌++◌, ◌≤◌, length, take, drop}
-use Rattle.kmem_model.specs.One.{replies, reply_lines}
-use Rattle.kmemrun.specs.Pages.{MovesOut}
+use Rattle.std.proofs.Common.{◌≡◌, ◌≤◌, length, take}
+use Rattle.kmem_model.specs.OneRun.{OneRun}
+use Rattle.kmemrun.specs.Bench.{Stands, RunsAt, IsOnPage}
 use Rattle.kmemrun.proofs.one.answer_lines.Given as goal
 
 -- of the replies to all lines, what isn't written yet stands in the page, or is the reply to a line that is left
-abbrev pub invariant-loop-line : goal.invariant-loop-line
-invariant-loop-line g l = record {
+abbrev pub invariant-loop-index : goal.invariant-loop-index
+invariant-loop-index g l = record {
   at : l.at ≤ length l.page;
-  names : length l.heap.map ≡ length l.script.names.items;
+  names : length l.bench.heap.heap.names ≡ length l.script.names.items;
   faults : g.W.Sink.faults l.out ≡ g.W.Sink.faults l.fn.out;
-  written : MovesOut (g.W.Sink.written l.fn.out) (g.W.Sink.written l.out) (reply_lines (replies l.fn.heap.capacity l.fn.heap.map l.script.lines.items)) (take l.at l.page ++ reply_lines (replies l.heap.capacity l.heap.map (drop l.line-index l.script.lines.items)));
+  stands : Stands l.bench;
+  written : (start : OneRun) → RunsAt start l.fn.bench → IsOnPage l.every l.script.names.items l.script.lines.items l.index start l.bench (g.W.Sink.written l.fn.out) (g.W.Sink.written l.out) (take l.at l.page);
 }
