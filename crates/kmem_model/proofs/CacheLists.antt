@@ -1,9 +1,9 @@
 -- Facts on lists that the proofs of this crate share.
-use Rattle.std.proofs.Common.{◌≡◌, ◌≢◌, ℕ, zero, suc, ◌+◌, ◌<◌, Bool, true, false, cond, List, [], ◌∷◌, map, length, get_or, set, replicate, All, count_by, option_map, Option, Some, None, is_some, ◌⊎◌, inl, inr, ⊎_elim, sym, ◌∙◌, ap, ap₂, refl, arith}
+use Rattle.std.proofs.Common.{◌≡◌, ◌≢◌, ℕ, zero, suc, ◌+◌, ◌<◌, ◌≤◌, Bool, true, false, cond, List, [], ◌∷◌, map, length, get_or, set, replicate, All, count_by, option_map, Option, Some, None, is_some, ◌⊎◌, inl, inr, ⊎_elim, sym, ◌∙◌, ap, ap₂, refl, arith}
 use Rattle.std.specs.List.{list_any}
 use Rattle.std.proofs.lemmas.Bool.{cases_lt, both_ways, cases_Bool}
-use Rattle.std.proofs.lemmas.List.{get_or_past, get_or-set_other}
-use Rattle.std.proofs.lemmas.List.Sums.{sum_by-cons, sum_by-set}
+use Rattle.std.proofs.lemmas.List.{get_or_past, get_or-set_other, set_past}
+use Rattle.std.proofs.lemmas.List.Sums.{sum_by-cons, sum_by-set, get_or-le-sum_by}
 
 -- a read that passes a test which the default fails is inside the list
 pub reads_within : {X : Type 0} (xs : List X) (i : ℕ) (d : X) (test : X → Bool) → test d ≡ false → test (get_or xs i d) ≡ true → i < length xs
@@ -47,6 +47,26 @@ count-map f p (x ∷ xs) =
 -- how many flags are set after one is written
 pub count-set : {X : Type 0} (p : X → Bool) (xs : List X) (i : ℕ) (y d : X) → i < length xs → count_by p (set xs i y) + cond (p (get_or xs i d)) 1 0 ≡ count_by p xs + cond (p y) 1 0
 count-set p xs i y d below = sum_by-set (λ x. cond (p x) 1 0) xs i y d below
+
+-- a write that the test doesn't see
+pub count-set_same : {X : Type 0} (p : X → Bool) (xs : List X) (i : ℕ) (y d : X) → p y ≡ p (get_or xs i d) → count_by p (set xs i y) ≡ count_by p xs
+count-set_same p xs i y d same =
+    ⊎_elim (λ below. omega (arith, count-set p xs i y d below, ap {B = ℕ} (λ b. cond b 1 0) same)) (λ past. ap (count_by p) (set_past xs i y past)) (cases_lt i (length xs))
+
+pub count-set_more : {X : Type 0} (p : X → Bool) (xs : List X) (i : ℕ) (y d : X) → i < length xs → p (get_or xs i d) ≡ false → p y ≡ true →
+    count_by p (set xs i y) ≡ count_by p xs + 1
+count-set_more p xs i y d below was is =
+    omega (arith, count-set p xs i y d below, ap {B = ℕ} (λ b. cond b 1 0) was, ap {B = ℕ} (λ b. cond b 1 0) is)
+
+pub count-set_less : {X : Type 0} (p : X → Bool) (xs : List X) (i : ℕ) (y d : X) → i < length xs → p (get_or xs i d) ≡ true → p y ≡ false →
+    count_by p (set xs i y) + 1 ≡ count_by p xs
+count-set_less p xs i y d below was is =
+    omega (arith, count-set p xs i y d below, ap {B = ℕ} (λ b. cond b 1 0) was, ap {B = ℕ} (λ b. cond b 1 0) is)
+
+-- what passes is counted
+pub counted : {X : Type 0} (p : X → Bool) (xs : List X) (i : ℕ) (d : X) → i < length xs → p (get_or xs i d) ≡ true → 1 ≤ count_by p xs
+counted p xs i d below passes =
+    omega (arith, get_or-le-sum_by (λ x. cond (p x) 1 0) xs i d below, ap {B = ℕ} (λ b. cond b 1 0) passes)
 
 -- none passes where the count is 0
 pub none_from_count : {X : Type 0} (p : X → Bool) (xs : List X) → count_by p xs ≡ 0 → All (λ x. p x ≡ false) xs

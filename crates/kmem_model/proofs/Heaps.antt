@@ -1,18 +1,18 @@
 -- What lies where in a heap that stands for a record map.
-use Rattle.std.proofs.Common.{◌≡◌, ◌≢◌, ℕ, zero, suc, ◌+◌, ◌*◌, ◌/◌, ◌%◌, ◌<◌, ◌≤◌, ◌==◌, ◌&&◌, not, Bool, true, false, cond, List, [], ◌∷◌, length, map, get_or, count_by, option_map, option_and_then, Option, Some, None, is_some, is_none, ◌⊎◌, inl, inr, ⊎_elim, sym, ◌∙◌, ap, ap₂, refl, subst, arith}
+use Rattle.std.proofs.Common.{◌≡◌, ◌≢◌, ℕ, zero, suc, ◌+◌, ◌/◌, ◌%◌, ◌<◌, ◌≤◌, ◌==◌, ◌&&◌, Bool, true, false, cond, List, [], ◌∷◌, length, get_or, count_by, option_map, option_and_then, Option, Some, None, is_some, is_none, ⊎_elim, sym, ◌∙◌, ap, ap₂, refl, arith}
 use Rattle.std.specs.Bool.{then_some}
 use Rattle.std.specs.Option.{option_or}
-use Rattle.std.proofs.lemmas.Bool.{cases_lt, cases_eq, cases_Bool, both_ways, and_parts, and_from, eqb-true, eqb-false, eq-eqb}
+use Rattle.std.proofs.lemmas.Bool.{cases_lt, cases_Bool, both_ways, and_parts, and_from, eqb-true, eq-eqb}
 use Rattle.std.proofs.lemmas.List.Sums.{count_by-le-length, AllPass-from_list_all}
 use Rattle.std.proofs.lemmas.Nat.{div_below, mod_below}
 use Rattle.kmem_model.proofs.CacheLists.{count-cons, count_all, get_or-map_default}
-use Rattle.kmem_model.proofs.CacheSearch.{fails_from_none, none_from_fails, least_from_some}
-use Rattle.kmem_model.proofs.RecordsValid.{is_the_some, live_within, read_within}
-use Rattle.kmem_model.specs.CacheState.{CacheState, SlabState, no_slab, slab_at, used, is_out, is_out_on}
+use Rattle.kmem_model.proofs.CacheSearch.{fails_from_none, least_from_some}
+use Rattle.kmem_model.proofs.RecordsValid.{is_the_some, live_within}
+use Rattle.kmem_model.specs.CacheState.{CacheState, SlabState, no_slab, slab_at, used, is_out}
 use Rattle.kmem_model.specs.CacheOrder.{least_below, is_the}
 use Rattle.kmem_model.specs.CacheEnter.{is_full}
-use Rattle.kmem_model.specs.Records.{Record, RecordMap, record_at, is_live, id_of, held_at, live_count, IsValid}
-use Rattle.kmem_model.specs.Heap.{Object, HeapState, object_at, address_of, hold_at, record_of, has_record, is_leftover, kept_count, address_in, IsTied, IsTiedObject, StandsFor}
+use Rattle.kmem_model.specs.Records.{RecordMap, is_live, id_of, held_at, live_count, IsValid}
+use Rattle.kmem_model.specs.Heap.{Object, HeapState, object_at, address_of, hold_at, record_of, has_record, is_leftover, address_in, IsTiedObject, StandsFor}
 use Rattle.kmem_model.specs.SettleWhole.{IsWhole, IsWholeSlab}
 use Rattle.kmem_model.specs.One.{OneState, buffers_of, id_at, least_leftover}
 use Rattle.kmem_model.specs.OneStands.{OneStands, least_left_in}
@@ -65,17 +65,22 @@ pub record LivesAt (m : RecordMap) (addresses : List ℕ) (b : ℕ) : Type 0 whe
   pub address : address_in addresses id ≡ b
   pub within : id < length addresses
 
-name_lives : (m : RecordMap) (addresses : List ℕ) (h : HeapState) (name b : ℕ) → IsValid m → StandsFor m addresses h → address_of h name ≡ Some b → LivesAt m addresses b
+pub name_lives : (m : RecordMap) (addresses : List ℕ) (h : HeapState) (name b : ℕ) → IsValid m → StandsFor m addresses h → address_of h name ≡ Some b → LivesAt m addresses b
 name_lives m addresses h name b v s e =
     let at = at_address addresses (id_of m name) b (sym (ap (λ xs. get_or xs name None) s.names ∙ get_or-map_default (option_map (address_in addresses)) m.names name None) ∙ e) in
     let live = v.named name at.0 at.1 in
     record { id = at.0; live = live; address = at.2; within = omega (arith, s.size, live_within m at.0 live) }
 
-tag_lives : (m : RecordMap) (addresses : List ℕ) (h : HeapState) (place b : ℕ) → IsValid m → StandsFor m addresses h → hold_at h place ≡ Some b → LivesAt m addresses b
+pub tag_lives : (m : RecordMap) (addresses : List ℕ) (h : HeapState) (place b : ℕ) → IsValid m → StandsFor m addresses h → hold_at h place ≡ Some b → LivesAt m addresses b
 tag_lives m addresses h place b v s e =
     let at = at_address addresses (held_at m place) b (sym (ap (λ xs. get_or xs place None) s.tags ∙ get_or-map_default (option_map (address_in addresses)) m.tags place None) ∙ e) in
     let live = v.held place at.0 at.1 in
     record { id = at.0; live = live; address = at.2; within = omega (arith, s.size, live_within m at.0 live) }
+
+-- an object with a value has a name or a tag
+pub valued_used : (h : HeapState) (b : ℕ) (o : Object) → IsTiedObject h b o → is_some o.value ≡ true → length o.names + o.holds ≢ 0
+valued_used h b o tied there unused =
+    both_ways (is_some o.value) (ap (λ (q : Object). is_some q.value) (tied.blank unused)) there
 
 -- an object with a value is that of an id
 pub object_lives : (m : RecordMap) (addresses : List ℕ) (h : HeapState) (b : ℕ) (o : Object) → IsValid m → StandsFor m addresses h → object_at h b ≡ Some o → is_some o.value ≡ true → LivesAt m addresses b
@@ -83,7 +88,7 @@ object_lives m addresses h b o v s e there =
     let tied = s.tied.objects b o e in
     ⊎_elim
     (λ named. let at = leads_somewhere h.names b (omega (arith, named, tied.once)) in name_lives m addresses h at.0 b v s at.1)
-    (λ unnamed. let at = leads_somewhere h.tags b (omega (arith, unnamed, tied.holds, tied.value there)) in tag_lives m addresses h at.0 b v s at.1)
+    (λ unnamed. let at = leads_somewhere h.tags b (omega (arith, unnamed, tied.holds, valued_used h b o tied there)) in tag_lives m addresses h at.0 b v s at.1)
     (cases_lt 0 (length o.names))
 
 -- and the object of an id has a value

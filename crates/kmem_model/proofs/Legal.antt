@@ -1,13 +1,12 @@
 -- The replies of `one` are those of a legal history, with `full` exactly where there is no room.
-use Rattle.std.proofs.Common.{◌≡◌, ◌≢◌, ◌⊎◌, ◌↔◌, ◌==◌, ◌+◌, ◌++◌, ℕ, Bool, true, false, cond, List, [], ◌∷◌, Option, Some, None, is_none, is_some, length, refl, sym, ap, ◌∙◌, subst, inl, inr}
+use Rattle.std.proofs.Common.{◌≡◌, ◌≢◌, ◌⊎◌, ◌↔◌, ◌==◌, ◌+◌, ◌++◌, ℕ, Bool, true, false, cond, List, [], ◌∷◌, Option, Some, None, is_some, refl, sym, ap, ◌∙◌, subst, inl, inr}
 use Rattle.std.specs.Bool.{then_some}
 use Rattle.std.specs.Option.{option_map_or}
 use Rattle.std.proofs.lemmas.Bool.{false≢true, and_parts, cond_both, cond-true, cond-false}
 use Rattle.kmem_text.specs.declared.command.Line.{Line}
 use Rattle.kmem_text.specs.declared.command.Command.{Command}
 use Rattle.kmem_text.specs.declared.command.Command.TheVariants.{Put, Get, Del, First, Next, Count, Link, Hold, Read, Write, Drop, Fix, Loose}
-use Rattle.kmem_text.specs.declared.command.Reply.{Reply}
-use Rattle.kmem_text.specs.declared.command.Reply.TheVariants.{New, Full}
+use Rattle.kmem_text.specs.declared.command.Reply.TheVariants.{Full}
 use Rattle.kmem_model.specs.CacheState.{CacheState, is_out}
 use Rattle.kmem_model.specs.CacheEnter.{is_full, may_take, with_out, on_slab_of, slab_freed, emptied_goes}
 use Rattle.kmem_model.specs.declared.cache_entry.CacheEntry.TheVariants as entry

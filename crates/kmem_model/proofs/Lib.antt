@@ -15,6 +15,7 @@ pub mod RecordsValid
 pub mod StepValid
 pub mod SettleWhole
 pub mod Heaps
+pub mod Relocates
 pub mod Outs
 pub mod StepTags
 pub mod StepReplies

@@ -1,9 +1,9 @@
 -- A settle of the heap and the cache is the settle of `one`.
-use Rattle.std.proofs.Common.{◌≡◌, ◌≢◌, ℕ, zero, suc, ◌+◌, ◌*◌, ◌<◌, ◌≤◌, ◌==◌, ◌&&◌, nat_lt, Bool, true, false, cond, List, [], ◌∷◌, ◌++◌, length, map, get_or, set, count_by, option_map, option_and_then, Option, Some, None, is_some, is_none, ◌⊎◌, inl, inr, ⊎_elim, sym, ◌∙◌, ap, ap₂, refl, subst, arith}
+use Rattle.std.proofs.Common.{◌≡◌, ℕ, suc, ◌+◌, ◌<◌, ◌&&◌, nat_lt, Bool, true, false, cond, List, [], ◌∷◌, length, map, get_or, set, count_by, option_map, option_and_then, Option, Some, None, is_some, is_none, ⊎_elim, sym, ◌∙◌, ap, ap₂, refl, arith}
 use Rattle.std.specs.List.{range_with_len}
 use Rattle.std.specs.Option.{option_map_or}
-use Rattle.std.proofs.lemmas.Bool.{cases_Bool, cases_eq, both_ways, cond-true, cond-false, cond_both, eq-eqb, ne_eqb, eqb-true}
-use Rattle.std.proofs.lemmas.List.{ext_get_or, length-map, map-set, get_or_past}
+use Rattle.std.proofs.lemmas.Bool.{cases_eq, both_ways, cond-true, cond-false, cond_both, eq-eqb, ne_eqb}
+use Rattle.std.proofs.lemmas.List.{ext_get_or, length-map, map-set}
 use Rattle.std.proofs.lemmas.List.FromFn.{length-map-range_with_len, get_or-map-range_with_len}
 use Rattle.kmem_model.proofs.CacheLists.{count-cons, reads_within, count-map, get_or-map_default}
 use Rattle.kmem_model.proofs.Heaps.{leftover_is, live_object, found_lives}
@@ -12,15 +12,14 @@ use Rattle.kmem_model.specs.CacheOrder.{is_the}
 use Rattle.kmem_model.specs.declared.cache_entry.Said.{Said}
 use Rattle.kmem_model.specs.declared.cache_entry.Said.TheVariants.{Yes, No, Later, DontNeed, DontKnow}
 use Rattle.kmem_model.specs.Records.{Record, RecordMap, record_at, held_at, is_live, tag_count, IsValid}
-use Rattle.kmem_model.specs.Heap.{Object, HeapState, object_at, record_of, has_record, is_leftover, address_in, StandsFor}
-use Rattle.kmem_model.specs.Says.{answer_about, says, relocated, heap_after, stage_in, AreInBuffers}
-use Rattle.kmem_model.specs.Settle.{Stage, Course, said_at, says_after}
-use Rattle.kmem_model.specs.SettleWhole.{IsWhole, IsWholeStage, is_known, enough}
+use Rattle.kmem_model.specs.Heap.{Object, HeapState, object_at, record_of, is_leftover, address_in, StandsFor}
+use Rattle.kmem_model.specs.Says.{answer_about, says, heap_after, stage_in, AreInBuffers}
+use Rattle.kmem_model.specs.Settle.{Course, said_at, says_after}
+use Rattle.kmem_model.specs.SettleWhole.{IsWhole, IsWholeStage, is_known}
 use Rattle.kmem_model.specs.SettleMeasure.{settled}
 use Rattle.kmem_model.specs.One.{OneState, buffers_of, id_at}
 use Rattle.kmem_model.specs.OneRun.{is_fixed, answer_by, answer_at, stage_of, addresses_moved, OneRun, run_after, settled_run}
 use Rattle.kmem_model.specs.OneStands.{OneStands}
-use Rattle.kmem_model.proofs.SettleSizes.{settled_sizes}
 
 -- The right answers by the map
 

@@ -1,13 +1,13 @@
 -- Every partial slab after the first has a mark exactly where at most one has none and is then the only one.
-use Rattle.std.proofs.Common.{◌≡◌, ◌≢◌, ℕ, zero, suc, ◌+◌, ◌<◌, ◌≤◌, ◌==◌, ◌&&◌, ◌||◌, not, Bool, true, false, cond, List, [], ◌∷◌, length, get_or, set, count_by, Option, Some, None, is_some, is_none, ◌⊎◌, inl, inr, ⊎_elim, sym, ◌∙◌, ap, ap₂, refl, subst, arith}
-use Rattle.std.proofs.lemmas.Bool.{cases_Bool, cases_lt, cases_eq, both_ways, and_from, and_parts, and_left, and_right, eq-eqb, ne_eqb, eqb-true, not_from_true, not_from_false, not-true, cond-true, cond-false}
+use Rattle.std.proofs.Common.{◌≡◌, ◌≢◌, ℕ, zero, suc, ◌+◌, ◌<◌, ◌≤◌, ◌==◌, ◌&&◌, ◌||◌, not, Bool, true, false, cond, List, [], ◌∷◌, length, get_or, set, count_by, Option, Some, None, is_none, ◌⊎◌, inl, inr, ⊎_elim, sym, ◌∙◌, ap, ap₂, refl, arith}
+use Rattle.std.proofs.lemmas.Bool.{cases_Bool, both_ways, and_from, and_parts, eq-eqb, ne_eqb, not_from_false, not-true, cond-true, cond-false}
 use Rattle.std.proofs.lemmas.List.{get_or-set_same, get_or-set_other, length-set}
 use Rattle.std.proofs.lemmas.List.Sums.{get_or-le-sum_by}
 use Rattle.kmem_model.proofs.CacheLists.{count-cons, count-set, reads_within}
 use Rattle.kmem_model.proofs.CacheSearch.{fails_from_none, none_from_fails, foremost_from_some, none_passes_from_none}
 use Rattle.kmem_model.proofs.CacheRanks.{comes_before-order}
 use Rattle.kmem_model.specs.CacheState.{SlabState, no_slab, slab_at}
-use Rattle.kmem_model.specs.CacheOrder.{least_below, foremost, is_the, is_partial, is_marked, comes_before, first_partial, IsForemost, IsOrder}
+use Rattle.kmem_model.specs.CacheOrder.{least_below, foremost, is_the, is_partial, is_marked, comes_before, first_partial, IsForemost}
 use Rattle.kmem_model.specs.Settle.{is_open_slab, is_rest_marked}
 use Rattle.kmem_model.specs.SettleMarks.{is_plain_partial, is_marked_partial, is_at_most_one_plain}
 

@@ -1,5 +1,5 @@
 -- Settle leaves as many slabs and buffers as there were.
-use Rattle.std.proofs.Common.{◌≡◌, ℕ, zero, suc, ◌+◌, ◌++◌, Bool, true, false, cond, [], ◌∷◌, length, Option, Some, None, is_none, option_and_then, option_map, sym, ◌∙◌, ap, refl, subst}
+use Rattle.std.proofs.Common.{◌≡◌, ℕ, zero, suc, ◌+◌, ◌++◌, Bool, true, false, cond, [], ◌∷◌, length, Some, is_none, option_and_then, option_map, subst}
 use Rattle.kmem_model.proofs.CacheChoices.{map_says}
 use Rattle.kmem_model.proofs.PlacesKept.{and_then_says}
 use Rattle.kmem_model.proofs.SettleWhole.{AreSameSizes, same_sizes, sizes_on, enter_sizes}

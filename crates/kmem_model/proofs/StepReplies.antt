@@ -1,5 +1,5 @@
 -- The names that replies tell are those of the map.
-use Rattle.std.proofs.Common.{◌≡◌, ℕ, ◌+◌, ◌<◌, ◌==◌, Bool, true, false, List, length, Option, Some, None, is_some, refl, sym, subst, ap}
+use Rattle.std.proofs.Common.{◌≡◌, ℕ, ◌+◌, ◌==◌, Bool, true, false, List, length, Option, Some, None, is_some, refl, sym, subst}
 use Rattle.std.proofs.lemmas.Bool.{cond_both}
 use Rattle.kmem_text.specs.declared.command.Command.{Command}
 use Rattle.kmem_text.specs.declared.command.Command.TheVariants.{Put, Get, Del, First, Next, Count, Link, Hold, Read, Write, Drop, Fix, Loose}
@@ -9,7 +9,7 @@ use Rattle.kmem_model.proofs.Legal.{placed_is}
 use Rattle.kmem_model.specs.Records.{RecordMap, tag_place, id_of, held_at, name_count, least_name}
 use Rattle.kmem_model.specs.RecordStep.{Step, put_step, get_step, del_step, at_step, link_step, hold_step, read_step, write_step, drop_step, fix_step, step}
 use Rattle.kmem_model.specs.History.{is_full_due}
-use Rattle.kmem_model.specs.One.{OneState, OneStep, buffers_of, placed_step, one_step}
+use Rattle.kmem_model.specs.One.{OneState, OneStep, buffers_of, one_step}
 
 abbrev Within : RecordMap → Step → Type 0
 Within m next = IsReplyWithinNames (length m.names) next.reply

@@ -1,5 +1,5 @@
 -- What a step leaves of the map and of its tags.
-use Rattle.std.proofs.Common.{◌≡◌, ◌≢◌, ℕ, ◌+◌, ◌==◌, Bool, true, false, cond, List, set, Option, Some, None, is_some, refl, ap}
+use Rattle.std.proofs.Common.{◌≡◌, ◌≢◌, ℕ, ◌+◌, ◌==◌, Bool, true, false, List, set, Option, Some, None, is_some, refl, ap}
 use Rattle.std.proofs.lemmas.Bool.{cond_both, both_ways}
 use Rattle.kmem_text.specs.declared.command.NameId.{NameId}
 use Rattle.kmem_text.specs.declared.command.Tag.{Tag}

@@ -1,12 +1,12 @@
 -- The step of a record map keeps it valid.
-use Rattle.std.proofs.Common.{◌≡◌, ℕ, ◌+◌, ◌*◌, ◌<◌, ◌≤◌, ◌==◌, Bool, true, false, cond, List, [], length, replicate, set, get_or, Option, Some, None, is_some, refl, ap, arith}
+use Rattle.std.proofs.Common.{◌≡◌, ℕ, ◌+◌, ◌*◌, ◌<◌, ◌≤◌, ◌==◌, Bool, true, false, cond, List, length, replicate, set, get_or, Option, Some, None, is_some, refl, arith}
 use Rattle.std.proofs.lemmas.Bool.{cond_both, both_ways, eqb-false}
 use Rattle.std.proofs.lemmas.List.{length-set}
 use Rattle.kmem_text.specs.declared.command.Command.{Command}
 use Rattle.kmem_text.specs.declared.command.Command.TheVariants.{Put, Get, Del, First, Next, Count, Link, Hold, Read, Write, Drop, Fix, Loose}
 use Rattle.kmem_model.proofs.CacheLists.{get_or-replicate_none}
 use Rattle.kmem_model.proofs.RecordsValid.{valid_changed, valid_new, valid_linked, valid_tagged, valid_unnamed, valid_untagged, none_lead}
-use Rattle.kmem_model.specs.Records.{Record, RecordMap, no_records, tag_place, id_of, held_at, name_count, least_name, is_used, changed_at, with_name, with_tag, without_unused, IsValid}
+use Rattle.kmem_model.specs.Records.{Record, RecordMap, no_records, tag_place, id_of, held_at, name_count, least_name, is_used, changed_at, with_name, with_tag, IsValid}
 use Rattle.kmem_model.specs.RecordStep.{Step, put_step, del_step, at_step, get_step, link_step, hold_step, read_step, write_step, drop_step, fix_step, step, IsInRange, IsValidAs}
 
 abbrev Keeps : RecordMap → Step → Type 0

@@ -1,5 +1,5 @@
 -- A heap of objects found by address, and when it stands for a record map (this project's own rule).
-use Rattle.std.specs.Prelude.{ℕ, ◌≡◌, ◌≢◌, ◌+◌, ◌==◌, Bool, true, false, List, [], Option, Some, None, is_some, is_none, option_map, option_and_then, map, count_by, length, slice_index_or, slice_set}
+use Rattle.std.specs.Prelude.{ℕ, ◌≡◌, ◌+◌, ◌==◌, Bool, true, false, List, [], Option, Some, None, is_some, is_none, option_map, option_and_then, map, count_by, length, slice_index_or}
 use Rattle.std.specs.List.{list_any}
 use Rattle.kmem_model.specs.CacheOrder.{is_the}
 use Rattle.kmem_model.specs.Records.{Record, RecordMap, record_at, is_live, live_count}
@@ -73,9 +73,8 @@ pub record IsTiedObject (h : HeapState) (b : ℕ) (o : Object) : Type 0 where
   pub once : length o.names ≡ count_by (λ a. is_the a b) h.names
   -- its hold count is the number of tags with its address
   pub holds : o.holds ≡ count_by (λ a. is_the a b) h.tags
-  -- without a name and a tag it is a leftover, and blank; else it has a value
+  -- without a name and a tag it is blank, as a leftover is
   pub blank : length o.names + o.holds ≡ 0 → o ≡ blank
-  pub value : is_some o.value ≡ true → length o.names + o.holds ≢ 0
 
 -- each address that a name or a tag has is that of an object, and each object is tied to its names and tags
 pub record IsTied (h : HeapState) : Type 0 where

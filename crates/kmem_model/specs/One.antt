@@ -1,14 +1,10 @@
 -- What `one` keeps, and its step: a command in the order of the file on one thread (this project's own rule).
-use Rattle.std.specs.Prelude.{ℕ, ◌+◌, ◌*◌, ◌==◌, ◌&&◌, List, [], ◌∷◌, ◌++◌, length, count_by, Option, Some, None, is_none, is_some, if◌then◌else◌}
-use Rattle.std.specs.List.{flat_map}
+use Rattle.std.specs.Prelude.{ℕ, ◌==◌, ◌&&◌, List, [], ◌∷◌, ◌++◌, length, Option, Some, None, is_none, is_some, if◌then◌else◌}
 use Rattle.std.specs.Option.{option_map_or}
 use Rattle.kmem_text.specs.declared.command.Command.{Command}
 use Rattle.kmem_text.specs.declared.command.Command.TheVariants.{Put, Del}
-use Rattle.kmem_text.specs.declared.command.Line.{Line}
 use Rattle.kmem_text.specs.declared.command.Reply.{Reply}
 use Rattle.kmem_text.specs.declared.command.Reply.TheVariants.{Full}
-use Rattle.kmem_text.specs.Grammar.{Plain}
-use Rattle.kmem_text.specs.Replies.{reply_text}
 use Rattle.kmem_model.specs.CacheState.{CacheState, is_out, opening}
 use Rattle.kmem_model.specs.CacheOrder.{least_below, wanted}
 use Rattle.kmem_model.specs.CacheEnter.{is_full, enter}
@@ -17,7 +13,7 @@ use Rattle.kmem_model.specs.declared.cache_entry.CacheEntry.TheVariants as entry
 use Rattle.kmem_model.specs.Records.{RecordMap, id_of, is_live, no_records}
 use Rattle.kmem_model.specs.RecordStep.{Step, step}
 use Rattle.kmem_model.specs.Heap.{address_in}
-use Rattle.kmem_model.specs.History.{Entry, is_full_due}
+use Rattle.kmem_model.specs.History.{is_full_due}
 
 -- what `one` keeps: the record map, the state of the cache, and the address of each id that was ever given
 pub record OneState : Type 0 where

@@ -6,7 +6,7 @@ use Rattle.kmem_text.specs.declared.command.Line.{Line}
 use Rattle.kmem_text.specs.declared.command.Reply.{Reply}
 use Rattle.kmem_text.specs.Grammar.{Plain}
 use Rattle.kmem_text.specs.Replies.{reply_text}
-use Rattle.kmem_model.specs.CacheState.{CacheState, is_out, slab_count, free_count}
+use Rattle.kmem_model.specs.CacheState.{is_out, slab_count, free_count}
 use Rattle.kmem_model.specs.declared.cache_entry.CacheEntry.TheVariants.{Free}
 use Rattle.kmem_model.specs.declared.cache_entry.Said.{Said}
 use Rattle.kmem_model.specs.declared.cache_entry.Said.TheVariants.{Yes, No, Later, DontNeed, DontKnow}

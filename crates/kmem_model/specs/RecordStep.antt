@@ -1,7 +1,6 @@
 -- The step of the record map: what each command replies, and the map that it leaves (this project's own rule).
 use Rattle.std.specs.Prelude.{ℕ, ◌≡◌, ◌<◌, ◌≤◌, ◌+◌, ◌*◌, ◌==◌, Bool, true, false, List, [], Option, Some, None, is_some, length, if◌then◌else◌}
 use Rattle.kmem_text.specs.Grammar.{IsWithinNames, IsWithinTags}
-use Rattle.kmem_text.specs.declared.command.NameId.{NameId}
 use Rattle.kmem_text.specs.declared.command.Command.{Command}
 use Rattle.kmem_text.specs.declared.command.Command.TheVariants.{Put, Get, Del, First, Next, Count, Link, Hold, Read, Write, Drop, Fix, Loose}
 use Rattle.kmem_text.specs.declared.command.Reply.{Reply}

@@ -1,5 +1,5 @@
 -- Partial slabs with and without a mark, counted (this project's own).
-use Rattle.std.specs.Prelude.{ℕ, ◌&&◌, ◌||◌, ◌==◌, Bool, not, List, count_by}
+use Rattle.std.specs.Prelude.{◌&&◌, ◌||◌, ◌==◌, Bool, not, List, count_by}
 use Rattle.kmem_model.specs.CacheState.{SlabState}
 use Rattle.kmem_model.specs.CacheOrder.{is_partial, is_marked}
 

@@ -1,12 +1,14 @@
 //! Laws of heaps in the buffers of a cache. Each is the contract of a function with an empty body.
 
-ghost use Rattle.std.specs.Prelude.{◌≡◌, ◌<◌, ℕ, false, true, length, map, Some, slice_set};
+ghost use Rattle.std.specs.Prelude.{◌≡◌, ◌<◌, ℕ, false, true, List, length, map, None, Some, slice_set};
 ghost use Rattle.kmem_model.specs.CacheState.{CacheState, has_pending};
 ghost use Rattle.kmem_model.specs.CacheEnter.{enter};
 ghost use Rattle.kmem_model.specs.declared.cache_entry.CacheEntry.TheVariants.{Free};
 ghost use Rattle.kmem_model.specs.declared.cache_entry.Said.{Said};
-ghost use Rattle.kmem_model.specs.Heap.{HeapState, StandsFor, places_of};
-ghost use Rattle.kmem_model.specs.Says.{answer_about, says, heap_after, stage_in, AreInBuffers};
+ghost use Rattle.kmem_model.specs.declared.cache_entry.Said.TheVariants.{Yes, DontNeed};
+ghost use Rattle.kmem_model.specs.Records.{RecordMap, IsValid};
+ghost use Rattle.kmem_model.specs.Heap.{HeapState, StandsFor, object_at, places_of};
+ghost use Rattle.kmem_model.specs.Says.{answer_about, says, heap_after, moved_address, relocated, stage_in, without_object, AreInBuffers};
 ghost use Rattle.kmem_model.specs.Settle.{Course, said_at, says_after};
 ghost use Rattle.kmem_model.specs.SettleWhole.{IsWhole, IsWholeStage, is_known};
 ghost use Rattle.kmem_model.specs.SettleMeasure.{settled};
@@ -44,14 +46,25 @@ pub fn law_one_settle()
         (settled_run run ≡ run_after run course) × OneStands (run_after run course).state new }
 {}
 
+/// A heap stands for the same map after the right answer about a move, whatever map it is. Where that is yes, the object goes to the new
+/// place with all its names, and the records' addresses follow; where it is not needed, the leftover goes.
+pub fn law_relocation()
+    ensures moved { (m : RecordMap) (addresses : List ℕ) (h : HeapState) (old new : ℕ) → IsValid m → StandsFor m addresses h →
+        object_at h new ≡ None → new < length h.objects → says h true old ≡ Yes →
+        StandsFor m (map (moved_address old new) addresses) (relocated h old new) }
+    ensures unneeded { (m : RecordMap) (addresses : List ℕ) (h : HeapState) (old : ℕ) → IsValid m → StandsFor m addresses h →
+        says h true old ≡ DontNeed → StandsFor m addresses (without_object h old) }
+{}
+
 #[cfg(test)]
 mod tests {
-    use super::{law_answers, law_one_settle, law_stage};
+    use super::{law_answers, law_one_settle, law_relocation, law_stage};
 
     #[test]
     fn laws_can_be_called() {
         law_stage();
         law_answers();
         law_one_settle();
+        law_relocation();
     }
 }

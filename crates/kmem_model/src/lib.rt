@@ -12,7 +12,7 @@ mod settle_laws;
 
 pub use cache_entry::{CacheEntry, Said};
 pub use cache_state::{Mode, PendingMove, Standing};
-pub use heap_laws::{law_answers, law_one_settle, law_stage};
+pub use heap_laws::{law_answers, law_one_settle, law_relocation, law_stage};
 pub use laws::{law_alloc_or_full, law_begin_or_idle, law_order, law_places, law_rows};
 pub use plan::Plan;
 pub use record_laws::{law_one, law_one_step, law_out, law_room, law_step};

@@ -1,21 +1,22 @@
 -- A tag more and a tag less: what it keeps, and the step of the map that it is.
-use Rattle.std.proofs.Common.{◌≡◌, ◌≢◌, ℕ, zero, suc, ◌+◌, ◌-◌, ◌^◌, ◌<◌, ◌≤◌, ◌==◌, Bool, true, false, not, cond, List, [], ◌∷◌, length, get_or, set, map, count_by, Option, Some, None, is_some, is_none, option_map, option_and_then, sym, ◌∙◌, ap, ap₂, refl, subst, arith}
+use Rattle.std.proofs.Common.{◌≡◌, ℕ, ◌+◌, ◌-◌, ◌^◌, ◌<◌, ◌≤◌, Bool, true, false, not, List, length, set, Option, Some, None, option_map, sym, ◌∙◌, ap, ap₂, refl, subst, arith}
 use Rattle.std.specs.Option.{option_map_or}
-use Rattle.std.proofs.lemmas.Bool.{both_ways, eqb-true, eqb-false, cond-true, cond-false}
+use Rattle.std.proofs.lemmas.Bool.{eqb-true, eqb-false, cond-true, cond-false}
 use Rattle.std.proofs.lemmas.List.{get_or-set_same, length-set, set-set}
 use Rattle.std.proofs.lemmas.List.Sums.{count_by-le-length}
-use Rattle.kmem_text.specs.declared.command.Reply.TheVariants.{Done, Was, Used, Absent}
+use Rattle.kmem_text.specs.declared.command.Reply.TheVariants.{Done, Was}
 use Rattle.kmem_model.specs.CacheOrder.{is_the}
 use Rattle.kmem_model.specs.Records.{Record, RecordMap, IsValid, id_of, held_at, record_at, is_live, value_at, is_used, without_unused}
 use Rattle.kmem_model.specs.Records as map_of
 use Rattle.kmem_model.specs.RecordStep.{hold_step, write_step, drop_step, put_step, fix_step}
-use Rattle.kmem_model.specs.Heap.{Object, HeapState, blank, address_of, hold_at, object_at, record_of, has_record, is_leftover, places_of, address_in, IsTied, StandsFor}
+use Rattle.kmem_model.specs.Heap.{Object, HeapState, blank, address_of, hold_at, object_at, has_record, is_leftover, IsTied, StandsFor}
 use Rattle.record_heap.specs.Objects.{held_more, held_less, is_unused}
-use Rattle.record_heap.specs.Changes.{value_in, holds_in, with_object, changed_at, with_tag, valued, fixed_at, tagged, untagged}
-use Rattle.record_heap.specs.Kept.{IsWhole, IsKept}
-use Rattle.record_heap.proofs.Lists.{counted, reads_the, reads_some, is_the-here}
+use Rattle.record_heap.specs.Changes.{value_in, holds_in, with_object, valued, fixed_at, tagged, untagged}
+use Rattle.record_heap.specs.Kept.{IsKept}
+use Rattle.kmem_model.proofs.CacheLists.{counted}
+use Rattle.kmem_model.proofs.RecordsValid.{read_within, is_the_same}
 use Rattle.record_heap.proofs.Tied.{put_at, IsCounted, same_but, same_but-begun, same_but-ended, tied_used, tied_left, counted_held, counted_released}
-use Rattle.record_heap.proofs.Stands.{IsLed, led, led_tag, no_tag, is_used_by}
+use Rattle.record_heap.proofs.Stands.{led, led_tag, no_tag, is_used_by}
 use Rattle.record_heap.proofs.Kept.{one_if, kept_at, whole_of, whole_held, whole_released, whole_blank}
 use Rattle.record_heap.proofs.Steps.{IsRecord, value_same, record_same, same_there, changed_there, begun_mapped, ended_mapped, low, record_now, left_now, none_some, counts_stay, valued_stands, fixed_stands}
 use Rattle.record_heap.proofs.Names.{apart_in, read_less, ended_map}
@@ -136,9 +137,6 @@ module _ (h : HeapState) (p r l : ℕ) (kept : IsKept h p r l) (b : ℕ) (it : I
           (apart_in m a h s t.id t.live m.names (λ i j is. valid.named i j is)) (apart_in m a h s t.id t.live (set m.tags place None) (λ i j is. valid.held i j (read_less m.tags place i j is)))
           (subst (λ c. IsCounted h.names (set h.tags place None) c (held_less it.o)) (sym t.at) counts)).1
 
-      pub done_reply : Done ≡ (drop_step m place (held_at m place)).reply
-      done_reply = ap (λ x. (drop_step m place x).reply) (sym (led_tag m a h valid s place b was).is)
-
       pub was_reply : (value v : List ℕ) → value_in h b ≡ Some v → Was v ≡ (write_step m value (held_at m place)).reply
       was_reply value v is =
           let t = led_tag m a h valid s place b was in
@@ -171,5 +169,5 @@ module _ (h : HeapState) (p r l : ℕ) (kept : IsKept h p r l) (b : ℕ) (it : I
           arith,
           ap (λ (y : Option Object). option_map_or (λ (q : Object). q.holds) y 0) it.at,
           it.counts.held,
-          counted (λ c. is_the c b) h.tags place None (reads_the h.tags place b was) (is_the-here (hold_at h place) b was),
+          counted (λ c. is_the c b) h.tags place None (read_within h.tags place b was) (is_the_same (hold_at h place) b was),
         )

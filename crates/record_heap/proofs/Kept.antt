@@ -1,16 +1,16 @@
 -- What a record heap keeps where one object changes.
-use Rattle.std.proofs.Common.{◌≡◌, ◌≢◌, ℕ, ◌+◌, ◌-◌, ◌<◌, ◌≤◌, ◌==◌, Bool, true, false, not, cond, List, [], ◌∷◌, ◌++◌, length, get_or, set, map, count_by, Option, Some, None, is_some, is_none, option_and_then, sym, ◌∙◌, ap, refl, subst, arith, ⊎_elim}
-use Rattle.std.specs.List.{list_any, filter}
+use Rattle.std.proofs.Common.{◌≡◌, ◌≢◌, ℕ, ◌+◌, ◌<◌, ◌≤◌, ◌==◌, Bool, true, false, not, cond, List, [], ◌∷◌, length, get_or, set, count_by, Option, Some, None, is_some, is_none, sym, ◌∙◌, ap, refl, subst, arith, ⊎_elim}
+use Rattle.std.specs.List.{list_any}
 use Rattle.std.proofs.lemmas.Bool.{both_ways, cases_eq, or_parts, eq-eqb, ne_eqb}
-use Rattle.std.proofs.lemmas.List.{get_or-set_same, get_or-set_other, length-set, map-set, length-map}
-use Rattle.std.proofs.lemmas.List.Sums.{sum_by_push, count_by-le-length}
-use Rattle.kmem_model.specs.CacheOrder.{is_the}
-use Rattle.kmem_model.specs.Heap.{Object, HeapState, blank, address_of, hold_at, object_at, has_record, is_leftover, kept_count, leftover_count, places_of, IsTied}
-use Rattle.record_heap.specs.Objects.{with_value, with_fixed, with_back, without_back, held_more, held_less, is_unused}
-use Rattle.record_heap.specs.Changes.{first_object, value_in}
+use Rattle.std.proofs.lemmas.List.{get_or-set_same, get_or-set_other, length-set}
+use Rattle.std.proofs.lemmas.List.Sums.{sum_by_push}
+use Rattle.kmem_model.specs.Heap.{Object, HeapState, blank, address_of, hold_at, object_at, has_record, is_leftover, IsTied}
+use Rattle.record_heap.specs.Objects.{with_value, with_fixed, with_back, without_back, held_more, held_less}
+use Rattle.record_heap.specs.Changes.{first_object}
 use Rattle.record_heap.specs.Kept.{IsWhole, IsKept}
-use Rattle.record_heap.proofs.Lists.{count-set, count-filter-le, count-cons, reads_the}
-use Rattle.record_heap.proofs.Tied.{put_at, IsCounted, counted_in, named_used, held_used}
+use Rattle.kmem_model.proofs.CacheLists.{count-set, count-cons}
+use Rattle.record_heap.proofs.Lists.{count-filter-le}
+use Rattle.record_heap.proofs.Tied.{put_at, counted_in, named_used, held_used}
 
 -- whether it is counted, as a number
 abbrev pub one_if : Bool → ℕ

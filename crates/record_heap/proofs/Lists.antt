@@ -1,41 +1,13 @@
 -- Facts on lists and options that the proofs of this crate share.
-use Rattle.std.proofs.Common.{◌≡◌, ◌≢◌, ℕ, zero, suc, ◌+◌, ◌<◌, ◌≤◌, ◌&&◌, ◌||◌, ◌==◌, nat_lt, Bool, true, false, not, cond, List, [], ◌∷◌, ◌++◌, length, get_or, set, map, count_by, Option, Some, None, is_some, option_map, sym, ◌∙◌, ap, ap₂, refl, subst, arith, ⊎_elim}
+use Rattle.std.proofs.Common.{◌≡◌, ◌≢◌, ℕ, zero, suc, ◌+◌, ◌≤◌, ◌&&◌, ◌||◌, ◌==◌, Bool, true, false, not, cond, List, [], ◌∷◌, length, get_or, set, map, count_by, Option, Some, None, option_map, sym, ◌∙◌, ap, ap₂, refl, arith, ⊎_elim}
 use Rattle.std.specs.List.{list_any, filter}
-use Rattle.std.specs.Option.{option_or}
-use Rattle.std.specs.Bool.{then_some}
-use Rattle.std.proofs.lemmas.Bool.{both_ways, cases_lt, cases_eq, eq-eqb, ne_eqb, eqb-true, cases_Bool}
-use Rattle.std.proofs.lemmas.List.{get_or_past, get_or-set_same, get_or-set_other, length-set, set_past, ext_get_or}
-use Rattle.std.proofs.lemmas.List.Sums.{sum_by-cons, sum_by-set, get_or-le-sum_by, length-filter, count_by-le-length}
+use Rattle.std.proofs.lemmas.Bool.{both_ways, cases_eq, eq-eqb, ne_eqb, eqb-true}
+use Rattle.std.proofs.lemmas.List.Sums.{length-filter}
 use Rattle.std.proofs.lemmas.List.Filters.{length-filter_both}
-use Rattle.kmem_model.specs.CacheOrder.{is_the, least_below}
+use Rattle.kmem_model.specs.CacheOrder.{is_the}
+use Rattle.kmem_model.proofs.CacheLists.{count-cons}
 
 -- Counts
-
-pub count-set : {X : Type 0} (p : X → Bool) (xs : List X) (i : ℕ) (y d : X) → i < length xs → count_by p (set xs i y) + cond (p (get_or xs i d)) 1 0 ≡ count_by p xs + cond (p y) 1 0
-count-set p xs i y d below = sum_by-set (λ x. cond (p x) 1 0) xs i y d below
-
-pub count-cons : {X : Type 0} (p : X → Bool) (x : X) (xs : List X) → count_by p (x ∷ xs) ≡ cond (p x) 1 0 + count_by p xs
-count-cons p x xs = sum_by-cons (λ y. cond (p y) 1 0) x xs
-
--- a write that the test doesn't see
-pub count-set_same : {X : Type 0} (p : X → Bool) (xs : List X) (i : ℕ) (y d : X) → p y ≡ p (get_or xs i d) → count_by p (set xs i y) ≡ count_by p xs
-count-set_same p xs i y d same =
-    ⊎_elim (λ below. omega (arith, count-set p xs i y d below, ap {B = ℕ} (λ b. cond b 1 0) same)) (λ past. ap (count_by p) (set_past xs i y past)) (cases_lt i (length xs))
-
-pub count-set_more : {X : Type 0} (p : X → Bool) (xs : List X) (i : ℕ) (y d : X) → i < length xs → p (get_or xs i d) ≡ false → p y ≡ true →
-    count_by p (set xs i y) ≡ count_by p xs + 1
-count-set_more p xs i y d below was is =
-    omega (arith, count-set p xs i y d below, ap {B = ℕ} (λ b. cond b 1 0) was, ap {B = ℕ} (λ b. cond b 1 0) is)
-
-pub count-set_less : {X : Type 0} (p : X → Bool) (xs : List X) (i : ℕ) (y d : X) → i < length xs → p (get_or xs i d) ≡ true → p y ≡ false →
-    count_by p (set xs i y) + 1 ≡ count_by p xs
-count-set_less p xs i y d below was is =
-    omega (arith, count-set p xs i y d below, ap {B = ℕ} (λ b. cond b 1 0) was, ap {B = ℕ} (λ b. cond b 1 0) is)
-
--- what passes is counted
-pub counted : {X : Type 0} (p : X → Bool) (xs : List X) (i : ℕ) (d : X) → i < length xs → p (get_or xs i d) ≡ true → 1 ≤ count_by p xs
-counted p xs i d below passes =
-    omega (arith, get_or-le-sum_by (λ x. cond (p x) 1 0) xs i d below, ap {B = ℕ} (λ b. cond b 1 0) passes)
 
 pub any_counted : {X : Type 0} (p : X → Bool) (xs : List X) → list_any p xs ≡ true → 1 ≤ count_by p xs
 any_counted p [] any = absurd (both_ways false refl any)
@@ -51,13 +23,6 @@ count_none p (x ∷ xs) none =
     omega (arith, count-cons p x xs, ap {B = ℕ} (λ c. cond c 1 0) (none 0), count_none p xs (λ i. none (suc i)))
 
 -- Reads
-
-pub reads_some : {X : Type 0} (xs : List (Option X)) (i : ℕ) → is_some (get_or xs i None) ≡ true → i < length xs
-reads_some xs i some =
-    ⊎_elim (λ below. below) (λ past. absurd (both_ways false refl (sym (ap is_some (get_or_past xs i None past)) ∙ some))) (cases_lt i (length xs))
-
-pub reads_the : {X : Type 0} (xs : List (Option X)) (i : ℕ) (x : X) → get_or xs i None ≡ Some x → i < length xs
-reads_the xs i x e = reads_some xs i (ap is_some e)
 
 -- a write that the test doesn't see
 pub read-set : {X Y : Type 0} (p : X → Y) (xs : List X) (i j : ℕ) (y d : X) → p y ≡ p (get_or xs i d) → p (get_or (set xs i y) j d) ≡ p (get_or xs j d)
@@ -82,13 +47,6 @@ map_agree {X = X} {Y = Y} f g (x ∷ xs) agree = ap₂ (λ (a : Option Y) (rest 
 
 -- Numbers that are there
 
-pub is_the-some : (o : Option ℕ) (b : ℕ) → is_the o b ≡ true → o ≡ Some b
-is_the-some None b e = absurd (both_ways false refl e)
-is_the-some (Some a) b e = ap Some (eqb-true a b e)
-
-pub is_the-here : (o : Option ℕ) (b : ℕ) → o ≡ Some b → is_the o b ≡ true
-is_the-here o b e = ap (λ a. is_the a b) e ∙ eq-eqb b b refl
-
 pub is_the-other : (o : Option ℕ) (b c : ℕ) → o ≡ Some b → c ≢ b → is_the o c ≡ false
 is_the-other o b c e apart = ap (λ a. is_the a c) e ∙ ne_eqb b c (λ same. apart (sym same))
 
@@ -107,10 +65,6 @@ count_apart at id (x ∷ xs) apart =
     one None h = refl
     one (Some j) h =
         ⊎_elim (λ same. eq-eqb (at j) (at id) (ap at same) ∙ sym (eq-eqb j id same)) (λ far. ne_eqb (at j) (at id) (λ e. far (h j refl e)) ∙ sym (ne_eqb j id far)) (cases_eq j id)
-
-pub least_same : (n : ℕ) (p q : ℕ → Bool) → ((k : ℕ) → p k ≡ q k) → least_below n p ≡ least_below n q
-least_same zero p q same = refl
-least_same (suc n) p q same = ap₂ (λ (a : Option ℕ) (b : Bool). option_or a (then_some b n)) (least_same n p q same) (same n)
 
 -- Back references
 

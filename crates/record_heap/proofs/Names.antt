@@ -1,23 +1,23 @@
 -- A name more and a name less: what it keeps, and the step of the map that it is.
-use Rattle.std.proofs.Common.{◌≡◌, ◌≢◌, ℕ, zero, suc, ◌+◌, ◌-◌, ◌<◌, ◌≤◌, ◌==◌, Bool, true, false, not, cond, List, [], ◌∷◌, ◌++◌, length, get_or, set, map, count_by, Option, Some, None, is_some, is_none, option_map, option_and_then, sym, ◌∙◌, ap, ap₂, refl, subst, arith, ⊎_elim}
+use Rattle.std.proofs.Common.{◌≡◌, ℕ, zero, suc, ◌+◌, ◌-◌, ◌<◌, ◌≤◌, ◌==◌, Bool, true, false, not, cond, List, [], ◌∷◌, length, get_or, set, count_by, Option, Some, None, is_some, option_map, sym, ◌∙◌, ap, refl, subst, arith, ⊎_elim}
 use Rattle.std.specs.Option.{option_map_or}
-use Rattle.std.proofs.Math.Seq.{map-set_same}
-use Rattle.std.proofs.lemmas.Bool.{both_ways, cases_eq, eq-eqb, ne_eqb, eqb-true, eqb-false, cond-true, cond-false}
-use Rattle.std.proofs.lemmas.List.{get_or-set_same, get_or-set_other, length-set, length-append, map-set, set-set}
-use Rattle.kmem_text.specs.declared.command.Reply.TheVariants.{Gone, Done, Taken, Many, Absent}
-use Rattle.kmem_model.specs.CacheOrder.{is_the}
+use Rattle.std.proofs.lemmas.Bool.{both_ways, cases_eq, ne_eqb, eqb-true, eqb-false, cond-true, cond-false}
+use Rattle.std.proofs.lemmas.List.{get_or-set_same, get_or-set_other, length-set, length-append, set-set}
+use Rattle.kmem_text.specs.declared.command.Reply.TheVariants.{Gone, Done, Taken, Many}
 use Rattle.kmem_model.specs.Records.{Record, RecordMap, IsValid, id_of, record_at, is_live, value_at, name_count, tag_count, is_used, without_unused}
 use Rattle.kmem_model.specs.Records as map_of
 use Rattle.kmem_model.specs.RecordStep.{del_step, link_step}
-use Rattle.kmem_model.specs.Heap.{Object, HeapState, blank, address_of, hold_at, object_at, record_of, has_record, is_leftover, places_of, address_in, IsTied, StandsFor}
+use Rattle.kmem_model.specs.Heap.{Object, HeapState, address_of, object_at, has_record, address_in, IsTied, StandsFor}
 use Rattle.record_heap.specs.Objects.{with_back, without_back, is_unused}
-use Rattle.record_heap.specs.Changes.{value_in, names_in, with_object, changed_at, with_name, linked, unlinked}
-use Rattle.record_heap.specs.Kept.{IsWhole, IsKept}
-use Rattle.record_heap.proofs.Lists.{counted, reads_some, count-set_more, count-set_less, reads_the, is_the-none}
-use Rattle.record_heap.proofs.Tied.{put_at, IsCounted, counted_in, same_but, same_but-begun, same_but-ended, tied_used, tied_gone, counted_linked, counted_unlinked}
-use Rattle.record_heap.proofs.Stands.{IsLed, led, no_name, is_used_by}
+use Rattle.record_heap.specs.Changes.{value_in, names_in, with_object, linked, unlinked}
+use Rattle.record_heap.specs.Kept.{IsKept}
+use Rattle.kmem_model.proofs.CacheLists.{counted, count-set_more, count-set_less}
+use Rattle.kmem_model.proofs.RecordsValid.{some_within, read_within}
+use Rattle.record_heap.proofs.Lists.{is_the-none}
+use Rattle.record_heap.proofs.Tied.{put_at, IsCounted, same_but, same_but-begun, same_but-ended, tied_used, tied_gone, counted_linked, counted_unlinked}
+use Rattle.record_heap.proofs.Stands.{led, no_name, is_used_by}
 use Rattle.record_heap.proofs.Kept.{one_if, kept_at, whole_of, whole_without, whole_back}
-use Rattle.record_heap.proofs.Steps.{step_of, IsRecord, of_name, value_same, record_same, same_there, changed_there, begun_mapped, ended_mapped, low, record_now, left_now, none_some, counts_stay}
+use Rattle.record_heap.proofs.Steps.{step_of, IsRecord, value_same, record_same, same_there, changed_there, begun_mapped, ended_mapped, low, record_now, left_now, none_some, counts_stay}
 
 -- ids with one address are one, where they are read in a list of ids that live
 pub apart_in : (m : RecordMap) (a : List ℕ) (h : HeapState) → StandsFor m a h → (id : ℕ) → is_live m id ≡ true → (xs : List (Option ℕ)) → ((i j : ℕ) → get_or xs i None ≡ Some j → is_live m j ≡ true) →
@@ -130,7 +130,7 @@ module _ (h : HeapState) (p r l : ℕ) (kept : IsKept h p r l) (b : ℕ) (it : I
 
     fewer : p - 1 ≡ count_by is_some (set h.names n None)
     fewer =
-        omega (arith, kept.names_counted, count-set_less is_some h.names n None None (reads_the h.names n b was) (ap is_some was) refl)
+        omega (arith, kept.names_counted, count-set_less is_some h.names n None None (read_within h.names n b was) (ap is_some was) refl)
 
     tied_unlink : is_unused (without_back n it.o) ≡ false → IsTied (put_at h (set h.names n None) h.tags b (Some (without_back n it.o)))
     tied_unlink used =
@@ -219,6 +219,6 @@ module _ (h : HeapState) (p r l : ℕ) (kept : IsKept h p r l) (b : ℕ) (it : I
           let t = led m a h valid s n b was in
           let same : id ≡ t.id = one_id id t.id (sym is ∙ t.is) in (
             ap (λ k. is_live k id) (unused_map unused)
-                ∙ (ap (λ i. is_some (get_or (set m.records t.id None) i None)) same ∙ ap is_some (get_or-set_same m.records t.id None None (reads_some m.records t.id t.live))),
+                ∙ (ap (λ i. is_some (get_or (set m.records t.id None) i None)) same ∙ ap is_some (get_or-set_same m.records t.id None None (some_within m.records t.id t.live))),
             ap (address_in a) same ∙ t.at,
           )

@@ -1,21 +1,21 @@
 -- A new record, a leftover that goes, and an object that moves: what they keep, and that the map is the next one or stays.
-use Rattle.std.proofs.Common.{◌≡◌, ◌≢◌, ℕ, zero, suc, ◌+◌, ◌-◌, ◌*◌, ◌^◌, ◌<◌, ◌≤◌, ◌==◌, Bool, true, false, not, cond, List, [], ◌∷◌, ◌++◌, length, get_or, set, map, replicate, count_by, Option, Some, None, is_some, is_none, option_map, option_and_then, sym, ◌∙◌, ap, ap₂, refl, subst, arith, ⊎_elim}
+use Rattle.std.proofs.Common.{◌≡◌, ℕ, zero, suc, ◌+◌, ◌-◌, ◌*◌, ◌<◌, ◌≤◌, Bool, true, false, List, [], ◌∷◌, ◌++◌, length, get_or, set, map, replicate, count_by, Option, Some, None, is_some, option_map, sym, ◌∙◌, ap, ap₂, refl, subst, arith, ⊎_elim}
 use Rattle.std.proofs.lemmas.Bool.{both_ways, cases_lt, false_from_ne_true}
-use Rattle.std.proofs.lemmas.List.{get_or-set_same, get_or-set_other, length-set, length-map, length-replicate, map-set, get_or-replicate, get_or_past}
-use Rattle.std.proofs.lemmas.List.Folds.{sum_by-replicate}
-use Rattle.kmem_text.specs.declared.command.Reply.TheVariants.{New, Was}
+use Rattle.std.proofs.lemmas.List.{length-set, length-replicate, get_or-replicate, get_or_past}
+use Rattle.kmem_text.specs.declared.command.Reply.TheVariants.{Was}
 use Rattle.std.specs.Option.{option_or}
 use Rattle.std.specs.Bool.{then_some}
-use Rattle.kmem_model.specs.CacheOrder.{is_the, least_below}
+use Rattle.kmem_model.specs.CacheOrder.{least_below}
 use Rattle.record_heap.specs.View.{least_leftover}
-use Rattle.kmem_model.specs.Records.{Record, RecordMap, IsValid, no_records, id_of, is_live, live_count}
+use Rattle.kmem_model.specs.Records.{RecordMap, IsValid, no_records, id_of}
 use Rattle.kmem_model.specs.RecordStep.{put_step}
-use Rattle.kmem_model.specs.Heap.{Object, HeapState, blank, address_of, hold_at, object_at, has_record, is_leftover, kept_count, leftover_count, places_of, address_in, IsTied, StandsFor}
-use Rattle.record_heap.specs.Objects.{is_unused}
+use Rattle.kmem_model.specs.Heap.{Object, HeapState, blank, address_of, object_at, has_record, is_leftover, address_in, IsTied, StandsFor}
 use Rattle.record_heap.specs.Changes.{value_in, with_object, made, first_object}
-use Rattle.record_heap.specs.Kept.{IsWhole, IsKept}
-use Rattle.record_heap.proofs.Lists.{count-set_more, counted, count_none, reads_the, reads_some, is_the-none}
-use Rattle.record_heap.proofs.Tied.{put_at, IsCounted, counted_in, same_but, same_but-begun, tied_used, tied_gone, counted_empty, counted_linked}
+use Rattle.record_heap.specs.Kept.{IsKept}
+use Rattle.kmem_model.proofs.CacheLists.{count-set_more, counted}
+use Rattle.kmem_model.proofs.RecordsValid.{read_within, some_within}
+use Rattle.record_heap.proofs.Lists.{count_none}
+use Rattle.record_heap.proofs.Tied.{IsCounted, counted_in, same_but, same_but-begun, tied_used, tied_gone, counted_empty, counted_linked}
 use Rattle.record_heap.proofs.Stands.{led, no_name, stands_made, stands_without, no_record}
 use Rattle.record_heap.proofs.Kept.{one_if, kept_at, whole_of, whole_first, leftover_blank}
 use Rattle.record_heap.proofs.Steps.{value_same}
@@ -60,7 +60,7 @@ left_free h p r l kept b left = counted_in h b blank (kept.tied.objects b blank 
 
 pub fewer_left : (h : HeapState) (p r l : ℕ) → IsKept h p r l → (b : ℕ) → is_leftover (object_at h b) ≡ true → 1 ≤ l
 fewer_left h p r l kept b left =
-    omega (arith, kept.leftovers_counted, counted is_leftover h.objects b None (reads_some h.objects b (there (object_at h b) left)) left)
+    omega (arith, kept.leftovers_counted, counted is_leftover h.objects b None (some_within h.objects b (there (object_at h b) left)) left)
   where
     there : (o : Option Object) → is_leftover o ≡ true → is_some o ≡ true
     there None e = e
@@ -81,7 +81,7 @@ no_leftover h p r l kept nothing_left =
 pub without_kept : (h : HeapState) (p r l : ℕ) → IsKept h p r l → (b : ℕ) → is_leftover (object_at h b) ≡ true → IsKept (with_object h b None) p r (l - 1)
 without_kept h p r l kept b left =
     let is = leftover_blank h p r l kept b left in
-    let low = reads_the h.objects b blank is in
+    let low = read_within h.objects b blank is in
     kept_at h p r l kept h.names h.tags b low None p r (l - 1)
     (tied_gone h h.names h.tags b kept.tied low (same_but b h.names) (same_but b h.tags) blank (left_free h p r l kept b left) refl) (λ q e. absurd (never q e)) refl refl kept.names_counted
     (ap (λ t. r + one_if t) (no_record (object_at h b) left)) (omega (arith, fewer_left h p r l kept b left, ap one_if left))
@@ -120,22 +120,6 @@ tied_nothing names tags objects =
     number : (c : ℕ) → ◌≡◌ {A = Option ℕ} None (Some c) → ⊥
     number c e = cc
 
-    object : (o : Object) → ◌≡◌ {A = Option Object} None (Some o) → ⊥
-    object o e = cc
-
-pub nothing_kept : (names tags objects : ℕ) → names < 2 ^ 32 → tags ≤ 128 → objects ≤ 65536 → IsKept (nothing names tags objects) 0 0 0
-nothing_kept names tags objects some few places =
-    record {
-      tied = tied_nothing names tags objects;
-      whole = λ c o e. absurd (object o (sym (none_at objects c) ∙ e));
-      names = omega (arith, some, length-replicate {A = Option ℕ} names None);
-      tags = omega (arith, few, length-replicate {A = Option ℕ} tags None);
-      objects = omega (arith, places, length-replicate {A = Option Object} objects None);
-      names_counted = sym (count_zero is_some names refl);
-      records_counted = sym (count_zero has_record objects refl);
-      leftovers_counted = sym (count_zero is_leftover objects refl);
-    }
-  where
     object : (o : Object) → ◌≡◌ {A = Option Object} None (Some o) → ⊥
     object o e = cc
 

@@ -1,8 +1,8 @@
 -- What is kept of the buffers of a shelf.
-use Rattle.std.proofs.Common.{◌≡◌, ℕ, zero, suc, ◌+◌, ◌<◌, ◌≤◌, Bool, true, false, List, [], ◌∷◌, length, get_or, set, map, replicate, slice_get, Option, Some, None, is_some, option_map, ⊎_elim, sym, ◌∙◌, ap, ap₂, refl, arith, subst}
-use Rattle.std.proofs.lemmas.List.{length-replicate, length-map, get_or-replicate, get_or-set_same, get_or-set_other, length-set, get_or_past, map-set, set-set, set-get_or, set_comm}
+use Rattle.std.proofs.Common.{◌≡◌, ℕ, zero, suc, ◌<◌, ◌≤◌, List, [], ◌∷◌, length, get_or, set, replicate, slice_get, Option, Some, None, option_map, ⊎_elim, sym, ◌∙◌, ap, ap₂, refl, arith, subst}
+use Rattle.std.proofs.lemmas.List.{length-replicate, get_or-replicate, get_or-set_same, get_or-set_other, length-set, get_or_past, map-set, set-set, set-get_or, set_comm}
 use Rattle.std.proofs.lemmas.Option.{slice_get_within}
-use Rattle.std.proofs.lemmas.Bool.{both_ways, cases_eq, cases_lt}
+use Rattle.std.proofs.lemmas.Bool.{cases_eq, cases_lt}
 use Rattle.atomic_table.specs.Seated.{TableId}
 use Rattle.kmem_buf.specs.Buffers.{BufState}
 use Rattle.kmem_buf.specs.Homes.{IsOf}
@@ -11,7 +11,6 @@ use Rattle.record_heap.specs.Shelves.{ShelfState, AreShelved, objects_of}
 use Rattle.record_heap.specs.Tags.{TagsState}
 use Rattle.record_heap.specs.View.{HeapView}
 use Rattle.record_heap.specs.Changes.{changed_at}
-use Rattle.record_heap.proofs.Lists.{read-map, reads_the}
 
 pub start : (cells : List TableId) (buffers : ℕ) → buffers ≡ length cells → buffers ≤ 65536 → AreShelved cells (replicate buffers None)
 start cells buffers as_many few =
@@ -62,10 +61,6 @@ shelved_take cells bufs n low kept =
           (λ same. absurd (none_is d (sym (get_or-set_same bufs n None None low) ∙ (ap (λ k. get_or (set bufs n None) k None) (sym same) ∙ is))))
           (λ apart. kept.placed i d (sym (get_or-set_other bufs n i None None apart) ∙ is)) (cases_eq i n);
     }
-
--- the object at a number is that of its buffer
-pub object_of : (bufs : List (Option (BufState Object))) (n : ℕ) → get_or (objects_of bufs) n None ≡ option_map (λ (b : BufState Object). b.object) (get_or bufs n None)
-object_of bufs n = read-map (λ (b : BufState Object). b.object) bufs n
 
 pub objects_set : (bufs : List (Option (BufState Object))) (n : ℕ) (o : Option (BufState Object)) →
     objects_of (set bufs n o) ≡ set (objects_of bufs) n (option_map (λ (b : BufState Object). b.object) o)

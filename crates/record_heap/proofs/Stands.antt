@@ -1,16 +1,17 @@
 -- A heap stands for the next map where one record changes, and for the same map after a move.
-use Rattle.std.proofs.Common.{◌≡◌, ◌≢◌, ℕ, zero, suc, ◌+◌, ◌<◌, ◌≤◌, ◌==◌, nat_lt, Bool, true, false, not, cond, List, [], ◌∷◌, ◌++◌, length, get_or, set, map, count_by, Option, Some, None, is_some, is_none, option_map, option_and_then, sym, ◌∙◌, ap, ap₂, refl, subst, arith, ⊎_elim, eqb, inl, inr, ◌⊎◌}
-use Rattle.std.proofs.lemmas.Bool.{both_ways, cases_lt, cases_eq, eq-eqb, ne_eqb, eqb-true, eqb-false, false_from_ne_true, le-ltb, lt-ltb, cases_Bool, cond-true, cond-false}
-use Rattle.std.proofs.lemmas.List.{get_or-set_same, get_or-set_other, length-set, length-map, get_or_append_left, get_or_push, length_push, map-set, set-get_or, get_or-map, get_or_past}
+use Rattle.std.proofs.Common.{◌≡◌, ◌≢◌, ℕ, zero, suc, ◌+◌, ◌<◌, ◌==◌, nat_lt, true, false, not, cond, List, [], ◌∷◌, ◌++◌, length, get_or, set, map, count_by, Option, Some, None, is_some, is_none, option_map, option_and_then, sym, ◌∙◌, ap, ap₂, refl, subst, arith, ⊎_elim, inl, inr, ◌⊎◌}
+use Rattle.std.proofs.lemmas.Bool.{both_ways, cases_lt, cases_eq, ne_eqb, lt-ltb}
+use Rattle.std.proofs.lemmas.List.{get_or-set_same, get_or-set_other, length-set, get_or_append_left, get_or_push, length_push, map-set, set-get_or}
 use Rattle.std.proofs.lemmas.List.Sums.{sum_by_push}
 use Rattle.kmem_model.specs.CacheOrder.{is_the}
-use Rattle.kmem_model.specs.Records.{Record, RecordMap, IsValid, id_of, held_at, record_at, is_live, name_count, tag_count, is_used, live_count, with_name, with_record, without_unused}
+use Rattle.kmem_model.specs.Records.{Record, RecordMap, IsValid, id_of, held_at, record_at, is_live, name_count, tag_count, is_used}
 use Rattle.kmem_model.specs.RecordStep.{put_step}
-use Rattle.kmem_model.specs.Heap.{Object, HeapState, blank, address_of, hold_at, object_at, record_of, has_record, is_leftover, kept_count, address_in, IsTied, StandsFor}
-use Rattle.kmem_model.specs.Says.{moved_address, moved_name, relocated}
+use Rattle.kmem_model.specs.Heap.{Object, HeapState, address_of, hold_at, object_at, record_of, has_record, is_leftover, address_in, IsTied, StandsFor}
 use Rattle.record_heap.specs.Objects.{is_unused}
 use Rattle.record_heap.specs.Changes.{first_object}
-use Rattle.record_heap.proofs.Lists.{count-set, count-set_same, count-set_more, count_apart, reads_some, reads_the, read-map, map_agree, is_the-some, is_the-here}
+use Rattle.kmem_model.proofs.CacheLists.{count-set, count-set_same, count-set_more}
+use Rattle.kmem_model.proofs.RecordsValid.{some_within}
+use Rattle.record_heap.proofs.Lists.{count_apart, read-map, map_agree}
 use Rattle.record_heap.proofs.Tied.{put_at, IsCounted}
 
 -- Look-ups
@@ -70,7 +71,7 @@ there None e = e
 there (Some o) e = refl
 
 pub object_low : (m : RecordMap) (a : List ℕ) (h : HeapState) → StandsFor m a h → (id : ℕ) → is_live m id ≡ true → address_in a id < length h.objects
-object_low m a h s id live = reads_some h.objects (address_in a id) (there (object_at h (address_in a id)) (object_live m a h s id live))
+object_low m a h s id live = some_within h.objects (address_in a id) (there (object_at h (address_in a id)) (object_live m a h s id live))
 
 -- where an object has no record, no live id has its address
 pub off : (m : RecordMap) (a : List ℕ) (h : HeapState) → StandsFor m a h → (b : ℕ) → has_record (object_at h b) ≡ false → (id : ℕ) → is_live m id ≡ true → address_in a id ≢ b
@@ -90,7 +91,7 @@ module _ (m : RecordMap) (a : List ℕ) (h : HeapState) (s : StandsFor m a h) (i
   stands_at mnames mtags names tags r o same_names same_tags is tied =
       let b = address_in a id in
       let low : b < length h.objects = object_low m a h s id live in
-      let low_id : id < length m.records = reads_some m.records id live in
+      let low_id : id < length m.records = some_within m.records id live in
       record {
         size = s.size ∙ sym (length-set m.records id r);
         names = same_names;
@@ -153,7 +154,7 @@ is_used_by m a names tags id o same_names same_tags apart_names apart_tags count
 
 module _ (m : RecordMap) (a : List ℕ) (h : HeapState) (valid : IsValid m) (s : StandsFor m a h) (name b : ℕ) (value : List ℕ) (low : b < length h.objects) (none : has_record (object_at h b) ≡ false) where
   old_at : (j : ℕ) → is_live m j ≡ true → address_in (a ++ b ∷ []) j ≡ address_in a j
-  old_at j live = get_or_append_left a (b ∷ []) 0 j (omega (arith, s.size, reads_some m.records j live))
+  old_at j live = get_or_append_left a (b ∷ []) 0 j (omega (arith, s.size, some_within m.records j live))
 
   new_at : address_in (a ++ b ∷ []) (length m.records) ≡ b
   new_at = get_or_push a b 0 (length m.records) s.size
@@ -162,7 +163,7 @@ module _ (m : RecordMap) (a : List ℕ) (h : HeapState) (valid : IsValid m) (s :
   cases_id : (j : ℕ) → is_some (get_or (m.records ++ Some (record { value = value; fixed = false }) ∷ []) j None) ≡ true → (is_live m j ≡ true) ⊎ (j ≡ length m.records)
   cases_id j lives =
       ⊎_elim (λ below. inl (ap is_some (sym (get_or_append_left m.records (Some (record { value = value; fixed = false }) ∷ []) None j below)) ∙ lives))
-      (λ past. inr (let z : j ≡ length m.records = omega (arith, past, reads_some (m.records ++ Some (record { value = value; fixed = false }) ∷ []) j lives, length_push m.records (Some (record { value = value; fixed = false }))) in z))
+      (λ past. inr (let z : j ≡ length m.records = omega (arith, past, some_within (m.records ++ Some (record { value = value; fixed = false }) ∷ []) j lives, length_push m.records (Some (record { value = value; fixed = false }))) in z))
       (cases_lt j (length m.records))
 
   pub stands_made : IsTied (put_at h (set h.names name (Some b)) h.tags b (Some (first_object name value))) →
@@ -183,7 +184,7 @@ module _ (m : RecordMap) (a : List ℕ) (h : HeapState) (valid : IsValid m) (s :
             (λ was.
             ap (λ c. option_and_then record_of (get_or (set h.objects b (Some (first_object name value))) c None)) (old_at j was)
             ∙ (ap (option_and_then record_of) (get_or-set_other h.objects b (address_in a j) (Some (first_object name value)) None (off m a h s b none j was))
-            ∙ (s.records j was ∙ sym (get_or_append_left m.records (new ∷ []) None j (reads_some m.records j was)))))
+            ∙ (s.records j was ∙ sym (get_or_append_left m.records (new ∷ []) None j (some_within m.records j was)))))
             (λ is.
             ap (λ i. option_and_then record_of (get_or (set h.objects b (Some (first_object name value))) (address_in a' i) None)) is
             ∙ (ap (λ c. option_and_then record_of (get_or (set h.objects b (Some (first_object name value))) c None)) new_at

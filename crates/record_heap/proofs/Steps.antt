@@ -1,24 +1,25 @@
 -- What each change of a heap keeps, and the step of the map that it is.
-use Rattle.std.proofs.Common.{◌≡◌, ◌≢◌, ℕ, zero, suc, ◌+◌, ◌-◌, ◌*◌, ◌<◌, ◌≤◌, ◌&&◌, ◌==◌, nat_le, nat_lt, Bool, true, false, not, cond, List, [], ◌∷◌, ◌++◌, length, get_or, set, map, replicate, count_by, Option, Some, None, is_some, is_none, option_map, option_and_then, sym, ◌∙◌, ap, ap₂, refl, subst, arith, ⊎_elim}
+use Rattle.std.proofs.Common.{◌≡◌, ◌≢◌, ℕ, ◌+◌, ◌<◌, ◌&&◌, ◌==◌, nat_le, Bool, true, false, List, [], length, get_or, set, map, Option, Some, None, is_some, is_none, option_map, option_and_then, sym, ◌∙◌, ap, ap₂, refl, subst, arith}
 use Rattle.std.specs.List.{list_any}
 use Rattle.std.specs.Option.{option_map_or}
 use Rattle.std.proofs.Math.Seq.{map-set_same}
-use Rattle.std.proofs.lemmas.Bool.{both_ways, cases_eq, eq-eqb, ne_eqb, eqb-true, eqb-false, not-false}
-use Rattle.std.proofs.lemmas.List.{get_or-set_same, get_or-set_other, length-set, length-map, length-append, map-set, set-set, length_push, length-replicate}
+use Rattle.std.proofs.lemmas.Bool.{both_ways}
+use Rattle.std.proofs.lemmas.List.{length-map}
 use Rattle.kmem_text.specs.declared.command.Reply.{Reply}
-use Rattle.kmem_text.specs.declared.command.Reply.TheVariants.{New, Was, Gone, Val, Absent, At, Number, Done, Taken, Many, Used, Idle}
-use Rattle.kmem_model.specs.CacheOrder.{is_the, least_below}
+use Rattle.kmem_text.specs.declared.command.Reply.TheVariants.{Val, At}
+use Rattle.kmem_model.specs.CacheOrder.{least_below}
 use Rattle.kmem_model.specs.Records.{Record, RecordMap, IsValid, no_records, id_of, held_at, record_at, is_live, value_at, name_count, tag_count, is_used, live_count, present_count, least_name, without_unused}
 use Rattle.kmem_model.specs.Records as map_of
-use Rattle.kmem_model.specs.RecordStep.{Step, put_step, get_step, del_step, at_step, link_step, hold_step, read_step, write_step, drop_step, fix_step}
-use Rattle.kmem_model.specs.Heap.{Object, HeapState, blank, address_of, hold_at, object_at, record_of, has_record, is_leftover, kept_count, leftover_count, places_of, address_in, IsTied, StandsFor}
-use Rattle.record_heap.specs.Objects.{with_value, with_fixed, with_back, without_back, held_more, held_less, is_unused}
-use Rattle.record_heap.specs.Changes.{value_in, names_in, holds_in, with_object, changed_at, with_name, with_tag, valued, fixed_at, linked, unlinked, tagged, untagged, made, first_object}
+use Rattle.kmem_model.specs.RecordStep.{Step, get_step, at_step, read_step}
+use Rattle.kmem_model.specs.Heap.{Object, HeapState, address_of, hold_at, object_at, record_of, has_record, is_leftover, address_in, IsTied, StandsFor}
+use Rattle.record_heap.specs.Objects.{with_value, with_fixed, is_unused}
+use Rattle.record_heap.specs.Changes.{value_in, changed_at, valued, fixed_at}
 use Rattle.record_heap.specs.Kept.{IsWhole, IsKept}
-use Rattle.record_heap.proofs.Lists.{count-set_more, count-set_less, count_none, reads_some, reads_the, read-map, is_the-none, least_same}
-use Rattle.record_heap.proofs.Tied.{put_at, IsCounted, counted_in, same_but, same_but-set, same_but-begun, same_but-ended, tied_used, tied_gone, tied_left, counted_linked, counted_unlinked, counted_held, counted_released, counted_empty}
-use Rattle.record_heap.proofs.Stands.{IsLed, led, led_tag, no_name, no_tag, at_name, at_tag, stands_at, stands_same, stands_made, stands_without, set_mapped, is_used_by, no_record}
-use Rattle.record_heap.proofs.Kept.{one_if, kept_at, whole_of, whole_blank, whole_value, whole_fixed, whole_held, whole_released, whole_without, whole_back, whole_first, named_valued, held_valued}
+use Rattle.kmem_model.proofs.RecordsValid.{read_within}
+use Rattle.kmem_model.proofs.Heaps.{least_agree}
+use Rattle.record_heap.proofs.Tied.{put_at, IsCounted, counted_in, same_but, tied_used}
+use Rattle.record_heap.proofs.Stands.{IsLed, led, led_tag, at_name, stands_at, stands_same, set_mapped}
+use Rattle.record_heap.proofs.Kept.{one_if, kept_at, whole_of, whole_value, whole_fixed, named_valued, held_valued}
 
 -- a record with these parts
 abbrev pub record_with : List ℕ → Bool → Record
@@ -65,9 +66,6 @@ of_tag h p r l kept place b leads =
 
 pub value_there : (h : HeapState) (b : ℕ) → IsRecord h b → is_some (value_in h b) ≡ true
 value_there h b r = ap (λ (x : Option Object). is_some (option_and_then (λ (o : Object). o.value) x)) r.at ∙ r.has
-
-pub object_there : (h : HeapState) (b : ℕ) → IsRecord h b → is_some (object_at h b) ≡ true
-object_there h b r = ap is_some r.at
 
 -- Values
 
@@ -117,7 +115,7 @@ at_some m a h valid s name b v leads is =
 pub least_named : (m : RecordMap) (a : List ℕ) (h : HeapState) → StandsFor m a h → (from : ℕ) → least_below (length h.names) (λ name. nat_le from name && is_some (address_of h name)) ≡ least_name m from
 least_named m a h s from =
     ap (λ n. least_below n (λ name. nat_le from name && is_some (address_of h name))) (ap (λ (xs : List (Option ℕ)). length xs) s.names ∙ length-map m.names (option_map (address_in a)))
-    ∙ least_same (length m.names) (λ name. nat_le from name && is_some (address_of h name)) (λ name. nat_le from name && is_some (id_of m name))
+    ∙ least_agree (length m.names) (λ name. nat_le from name && is_some (address_of h name)) (λ name. nat_le from name && is_some (id_of m name))
     (λ k. ap (λ t. nat_le from k && t) (ap is_some (at_name m a h s k) ∙ some_mapped (id_of m k)))
   where
     some_mapped : (x : Option ℕ) → is_some (option_map (address_in a) x) ≡ is_some x
@@ -159,7 +157,7 @@ module _ (m : RecordMap) (a : List ℕ) (h : HeapState) (s : StandsFor m a h) (x
 
 module _ (h : HeapState) (p r l : ℕ) (kept : IsKept h p r l) (b : ℕ) (it : IsRecord h b) where
   pub low : b < length h.objects
-  low = reads_the h.objects b it.o it.at
+  low = read_within h.objects b it.o it.at
 
   -- an object with as many names and holds
   tied_same : (o : Object) → IsCounted h.names h.tags b o → length o.names + o.holds ≢ 0 → IsTied (put_at h h.names h.tags b (Some o))

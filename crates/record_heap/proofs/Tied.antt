@@ -1,14 +1,15 @@
 -- A heap stays tied where one object changes, with the names and tags that lead to it.
-use Rattle.std.proofs.Common.{◌≡◌, ◌≢◌, ℕ, zero, suc, ◌+◌, ◌-◌, ◌<◌, ◌≤◌, ◌&&◌, ◌||◌, ◌==◌, Bool, true, false, not, cond, List, [], ◌∷◌, ◌++◌, length, get_or, set, count_by, Option, Some, None, is_some, sym, ◌∙◌, ap, ap₂, refl, subst, arith, ⊎_elim}
+use Rattle.std.proofs.Common.{◌≡◌, ◌≢◌, ℕ, ◌+◌, ◌<◌, ◌≤◌, ◌&&◌, ◌||◌, ◌==◌, Bool, true, false, not, List, [], ◌∷◌, length, get_or, set, count_by, Option, Some, None, is_some, sym, ◌∙◌, ap, refl, subst, arith, ⊎_elim}
 use Rattle.std.specs.List.{list_any}
-use Rattle.std.proofs.lemmas.Bool.{both_ways, cases_eq, eq-eqb, ne_eqb, eqb-true, eqb-false, false_from_ne_true}
-use Rattle.std.proofs.lemmas.List.{get_or-set_same, get_or-set_other, length-set, length-append}
+use Rattle.std.proofs.lemmas.Bool.{both_ways, cases_eq, eq-eqb, ne_eqb, false_from_ne_true}
+use Rattle.std.proofs.lemmas.List.{get_or-set_same, get_or-set_other, length-append}
 use Rattle.std.proofs.lemmas.List.Folds.{list_any-append}
 use Rattle.kmem_model.specs.CacheOrder.{is_the}
-use Rattle.kmem_model.specs.Heap.{Object, HeapState, blank, address_of, hold_at, object_at, IsTiedObject, IsTied}
-use Rattle.record_heap.specs.Objects.{with_back, without_back, held_more, held_less, is_unused}
-use Rattle.record_heap.specs.Changes.{first_object}
-use Rattle.record_heap.proofs.Lists.{count_none, count-set_same, count-set_more, count-set_less, counted, any_counted, reads_some, reads_the, read-set, is_the-some, is_the-here, is_the-other, is_the-none, any-without, length-without}
+use Rattle.kmem_model.specs.Heap.{Object, HeapState, blank, object_at, IsTiedObject, IsTied}
+use Rattle.record_heap.specs.Objects.{with_back, without_back, held_more, held_less}
+use Rattle.kmem_model.proofs.CacheLists.{count-set_same, count-set_more, count-set_less, counted}
+use Rattle.kmem_model.proofs.RecordsValid.{read_within, is_the_some, is_the_same}
+use Rattle.record_heap.proofs.Lists.{count_none, read-set, is_the-other, is_the-none, any-without, length-without}
 
 -- the heap with these names and tags, and with this object, or none, at this address
 abbrev pub put_at : HeapState → List (Option ℕ) → List (Option ℕ) → ℕ → Option Object → HeapState
@@ -49,16 +50,16 @@ counted_in h b o tied = record { back = tied.names; once = tied.once; held = tie
 unled : (b : ℕ) (xs : List (Option ℕ)) → count_by (λ a. is_the a b) xs ≡ 0 → (i : ℕ) → is_the (get_or xs i None) b ≡ false
 unled b xs none i =
     false_from_ne_true (is_the (get_or xs i None) b)
-    (λ leads. omega (arith, none, counted (λ a. is_the a b) xs i None (reads_the xs i b (is_the-some (get_or xs i None) b leads)) leads))
+    (λ leads. omega (arith, none, counted (λ a. is_the a b) xs i None (read_within xs i b (is_the_some (get_or xs i None) b leads)) leads))
 
 -- an object of which something leads to it is used
 pub named_used : (names tags : List (Option ℕ)) (b : ℕ) (o : Object) (i : ℕ) → IsCounted names tags b o → get_or names i None ≡ Some b → length o.names + o.holds ≢ 0
 named_used names tags b o i counts leads none =
-    omega (arith, none, counts.once, counted (λ a. is_the a b) names i None (reads_the names i b leads) (is_the-here (get_or names i None) b leads))
+    omega (arith, none, counts.once, counted (λ a. is_the a b) names i None (read_within names i b leads) (is_the_same (get_or names i None) b leads))
 
 pub held_used : (names tags : List (Option ℕ)) (b : ℕ) (o : Object) (i : ℕ) → IsCounted names tags b o → get_or tags i None ≡ Some b → 0 < o.holds
 held_used names tags b o i counts leads =
-    omega (arith, counts.held, counted (λ a. is_the a b) tags i None (reads_the tags i b leads) (is_the-here (get_or tags i None) b leads))
+    omega (arith, counts.held, counted (λ a. is_the a b) tags i None (read_within tags i b leads) (is_the_same (get_or tags i None) b leads))
 
 -- what leads somewhere leads to an object
 lead : (objects : List (Option Object)) (b : ℕ) (o : Option Object) → b < length objects → (xs ys : List (Option ℕ)) → IsSameBut b xs ys →
@@ -68,10 +69,10 @@ lead objects b o low xs ys same to from i c leads =
     ⊎_elim
     (λ is.
     ap is_some (ap (λ n. get_or (set objects b o) n None) is ∙ get_or-set_same objects b o None low)
-    ∙ to i (is_the-here (get_or ys i None) b (leads ∙ ap Some is)))
+    ∙ to i (is_the_same (get_or ys i None) b (leads ∙ ap Some is)))
     (λ apart.
     ap is_some (get_or-set_other objects b c o None apart)
-    ∙ from i c (is_the-some (get_or xs i None) c (sym (same.at i c apart) ∙ is_the-here (get_or ys i None) c leads)))
+    ∙ from i c (is_the_some (get_or xs i None) c (sym (same.at i c apart) ∙ is_the_same (get_or ys i None) c leads)))
     (cases_eq c b)
 
 -- one object changes, with the names and tags that lead to it
@@ -95,7 +96,6 @@ module _ (h : HeapState) (names tags : List (Option ℕ)) (b : ℕ) (tied : IsTi
               once = was.once ∙ sym (same_names.count c apart);
               holds = was.holds ∙ sym (same_tags.count c apart);
               blank = was.blank;
-              value = was.value;
             })
             (cases_eq c b);
       }
@@ -111,7 +111,6 @@ module _ (h : HeapState) (names tags : List (Option ℕ)) (b : ℕ) (tied : IsTi
         once = counts.once;
         holds = counts.held;
         blank = λ none. absurd (used none);
-        value = λ some. used;
       }))
     where
       same_some : (x y : Object) → ◌≡◌ {A = Option Object} (Some x) (Some y) → x ≡ y
@@ -135,7 +134,6 @@ module _ (h : HeapState) (names tags : List (Option ℕ)) (b : ℕ) (tied : IsTi
         once = (let z : 0 ≡ count_by (λ a. is_the a b) names = omega (arith, counts.once, none) in z);
         holds = (let z : 0 ≡ count_by (λ a. is_the a b) tags = omega (arith, counts.held, none) in z);
         blank = λ zero. refl;
-        value = λ some. absurd (both_ways false refl some);
       }))
     where
       same_some : (x y : Object) → ◌≡◌ {A = Option Object} (Some x) (Some y) → x ≡ y
@@ -178,8 +176,8 @@ counted_linked names tags b n o counts low was =
 pub counted_unlinked : (names tags : List (Option ℕ)) (b n : ℕ) (o : Object) → IsCounted names tags b o → get_or names n None ≡ Some b → count_by (λ other. other == n) o.names ≤ 1 →
     IsCounted (set names n None) tags b (without_back n o)
 counted_unlinked names tags b n o counts was most =
-    let low : n < length names = reads_the names n b was in
-    let leads : is_the (get_or names n None) b ≡ true = is_the-here (get_or names n None) b was in
+    let low : n < length names = read_within names n b was in
+    let leads : is_the (get_or names n None) b ≡ true = is_the_same (get_or names n None) b was in
     record {
       back = λ name.
           any-without n name o.names
@@ -226,7 +224,7 @@ counted_released names tags b p o counts was =
       back = counts.back;
       once = counts.once;
       held =
-          omega (arith, counts.held, count-set_less (λ a. is_the a b) tags p None None (reads_the tags p b was) (is_the-here (get_or tags p None) b was) refl);
+          omega (arith, counts.held, count-set_less (λ a. is_the a b) tags p None None (read_within tags p b was) (is_the_same (get_or tags p None) b was) refl);
     }
 
 -- nothing leads to an address without an object, nor to a leftover
@@ -235,7 +233,7 @@ counted_empty h b tied empty =
     let none : (xs : List (Option ℕ)) → ((i c : ℕ) → get_or xs i None ≡ Some c → is_some (object_at h c) ≡ true) → (i : ℕ) → is_the (get_or xs i None) b ≡ false =
     λ xs leads i.
     false_from_ne_true (is_the (get_or xs i None) b)
-    (λ is. both_ways (is_some (object_at h b)) (ap is_some empty) (leads i b (is_the-some (get_or xs i None) b is))) in
+    (λ is. both_ways (is_some (object_at h b)) (ap is_some empty) (leads i b (is_the_some (get_or xs i None) b is))) in
     record {
       back = λ name. sym (none h.names tied.named name);
       once = sym (count_none (λ a. is_the a b) h.names (none h.names tied.named));

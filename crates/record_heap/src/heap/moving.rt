@@ -11,6 +11,7 @@ ghost use Rattle.record_heap.specs.Answers.{said_of};
 use super::RecordHeap;
 use crate::cell::RecordKind;
 use kmem_buf::{Answer, Buf, Verdict};
+use kmem_model::law_relocation;
 
 impl RecordHeap {
     /// Answers whether the object of the number could move to the buffer, and moves it where the answer is yes: with its value, its names
@@ -25,6 +26,7 @@ impl RecordHeap {
         ensures empty { object_at self.old.heap to.number ≡ None }
         ensures frame { IsFrame self.old self.new }
     {
+        law_relocation();
         let to = self.parts.show_empty(to);
         match self.parts.verdict(from) {
             Verdict::Yes => Answer::Yes(self.parts.relocate(from, to)),

@@ -1,4 +1,4 @@
-use Rattle.std.proofs.Common.{◌≡◌, ◌<◌, ◌==◌, ℕ, Option, Some, None, length, get_or, set, take, cond, arith, sym, ap, ◌∙◌, refl, ⊎_elim}
+use Rattle.std.proofs.Common.{◌<◌, ◌==◌, Some, None, length, get_or, set, take, cond, arith, sym, ap, ◌∙◌, refl, ⊎_elim}
 use Rattle.std.specs.List.{list_any}
 use Rattle.std.proofs.lemmas.Bool.{cases_eq, eq-eqb, ne_eqb, or_right}
 use Rattle.std.proofs.lemmas.List.{get_or-set_same, get_or-set_other}

@@ -1,8 +1,6 @@
-use Rattle.std.proofs.Common.{◌≡◌, ◌≢◌, ℕ, ◌+◌, ◌-◌, ◌*◌, ◌<◌, ◌≤◌, ◌==◌, Bool, true, false, Option, Some, None, List, [], ◌∷◌, ◌++◌, length, get_or, set, map, replicate, is_some, option_map, count_by, sym, ap, ap₂, ◌∙◌, refl, subst, arith}
-use Rattle.std.proofs.lemmas.List.Sums.{count_by-le-length}
-use Rattle.kmem_model.specs.Records.{RecordMap, IsValid, id_of, held_at, tag_place, least_name, no_records}
-use Rattle.kmem_model.specs.Heap.{Object, HeapState, StandsFor, address_of, hold_at, object_at, places_of, has_record, is_leftover, blank}
-use Rattle.record_heap.specs.View.{HeapView, HoldState}
+use Rattle.std.proofs.Common.{◌≡◌, ℕ, ◌-◌, ◌==◌, Option, None, [], ◌∷◌, sym, ap, ap₂, ◌∙◌, subst}
+use Rattle.kmem_model.specs.Heap.{Object, HeapState, StandsFor, address_of, object_at, has_record, blank}
+use Rattle.record_heap.specs.View.{HeapView}
 use Rattle.record_heap.specs.Kept.{IsKept}
 use Rattle.std.specs.List.{list_any}
 use Rattle.std.specs.Option.{option_map_or}
@@ -16,8 +14,10 @@ use Rattle.record_heap.specs.Answers.{said_of}
 use Rattle.record_heap.specs.Changes.{names_in, with_object}
 use Rattle.record_heap.proofs.Kept.{leftover_blank, some_is}
 use Rattle.record_heap.proofs.Shelved.{all_two}
-use Rattle.record_heap.proofs.Moved.{yes_is, need_is, moved_kept, stands_moved}
-use Rattle.record_heap.proofs.Puts.{without_kept, without_stands}
+use Rattle.kmem_model.proofs.Heaps.{valued_used}
+use Rattle.kmem_model.proofs.Relocates.{yes_is, need_is}
+use Rattle.record_heap.proofs.Moved.{moved_kept}
+use Rattle.record_heap.proofs.Puts.{without_kept}
 use Rattle.record_heap.proofs.heap.RecordHeap.answer_move.Goals as goal
 
 pub relocate-requires-clause-names : goal.relocate-requires-clause-names
@@ -43,8 +43,8 @@ invariant_of-self c =
     let is : c.relocate.new.self.heap ≡ relocated h c.args.from c.args.to.number =
     ap (λ (v : HeapView). v.heap) c.relocate.ensures.parts ∙ ap₂ (λ (v : HeapView) (b : BufState Object). relocated v.heap c.args.from b.number) parts c.show_empty-to.ensures.buf in
     subst (λ (k : HeapState). IsKept k f.present f.records f.leftovers) (sym is)
-    (moved_kept h c.self.invariant.tied c.args.from c.args.to.number it.o it.is it.free ((c.self.invariant.tied.objects c.args.from it.o it.is).value it.has) c.show_empty-to.ensures.empty c.show_empty-to.ensures.range
-    f.present f.records f.leftovers c.self.invariant (ap has_record it.is ∙ it.has))
+    (moved_kept h c.args.from c.args.to.number it.o it.is c.show_empty-to.ensures.empty c.show_empty-to.ensures.range
+    f.present f.records f.leftovers c.self.invariant it.free (valued_used h c.args.from it.o (c.self.invariant.tied.objects c.args.from it.o it.is) it.has) (ap has_record it.is ∙ it.has))
 
 pub invariant_of-self-in-DontNeed : goal.invariant_of-self-in-DontNeed
 invariant_of-self-in-DontNeed c =
@@ -65,14 +65,13 @@ returns-in-Yes-clause-stands c = λ m a valid s.
     let parts = c.show_empty-to.ensures.parts in
     let says : said.Yes ≡ answer_about (object_at h c.args.from) =
     ap said_of (sym c.in-Yes.is) ∙ (c.verdict.ensures ∙ ap (λ (v : HeapView). answer_about (object_at v.heap c.args.from)) parts) in
-    let it = yes_is (object_at h c.args.from) says in
     let is : c.relocate.new.self.heap ≡ relocated h c.args.from c.args.to.number =
     ap (λ (v : HeapView). v.heap) c.relocate.ensures.parts ∙ ap₂ (λ (v : HeapView) (b : BufState Object). relocated v.heap c.args.from b.number) parts c.show_empty-to.ensures.buf in
     let said_now : said.Yes ≡ answer_about (object_at c.args.self.now.heap c.args.from) = says ∙ ap (λ (v : HeapView). answer_about (object_at v.heap c.args.from)) c.self.view_is in
     subst (λ (x : Said). StandsFor m (addresses_after a c.args.from c.args.to.number x) c.relocate.new.self.heap) said_now
     (subst (λ (k : HeapState). StandsFor m (addresses_after a c.args.from c.args.to.number said.Yes) k) (sym is)
-    (stands_moved h c.self.invariant.tied c.args.from c.args.to.number it.o it.is it.free ((c.self.invariant.tied.objects c.args.from it.o it.is).value it.has) c.show_empty-to.ensures.empty c.show_empty-to.ensures.range
-    m a valid (subst (λ (v : HeapView). StandsFor m a v.heap) (sym c.self.view_is) s) (ap has_record it.is ∙ it.has)))
+    (c.law_relocation.ensures.moved m a h c.args.from c.args.to.number valid (subst (λ (v : HeapView). StandsFor m a v.heap) (sym c.self.view_is) s)
+    c.show_empty-to.ensures.empty c.show_empty-to.ensures.range (sym says)))
 
 pub returns-in-DontNeed-clause-buffers : goal.returns-in-DontNeed-clause-buffers
 returns-in-DontNeed-clause-buffers c =
@@ -103,4 +102,4 @@ returns-in-DontNeed-clause-stands c = λ m a valid s.
     let said_now : said.DontNeed ≡ answer_about (object_at c.args.self.now.heap c.args.from) = says ∙ ap (λ (v : HeapView). answer_about (object_at v.heap c.args.from)) c.self.view_is in
     subst (λ (x : Said). StandsFor m (addresses_after a c.args.from c.args.to.number x) c.take_out.new.self.heap) said_now
     (subst (λ (k : HeapState). StandsFor m a k) (sym is)
-    (without_stands h f.present f.records f.leftovers c.self.invariant c.args.from (need_is (object_at h c.args.from) says) m a (subst (λ (v : HeapView). StandsFor m a v.heap) (sym c.self.view_is) s)))
+    (c.law_relocation.ensures.unneeded m a h c.args.from valid (subst (λ (v : HeapView). StandsFor m a v.heap) (sym c.self.view_is) s) (sym says)))

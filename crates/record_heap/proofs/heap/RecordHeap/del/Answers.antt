@@ -1,10 +1,8 @@
-use Rattle.std.proofs.Common.{◌≡◌, ℕ, ◌+◌, ◌-◌, ◌<◌, ◌≤◌, Bool, true, false, Option, Some, None, List, [], ◌∷◌, length, get_or, set, map, is_some, option_map, count_by, sym, ap, ap₂, ◌∙◌, refl, subst, arith}
-use Rattle.std.proofs.lemmas.List.Sums.{count_by-le-length}
-use Rattle.kmem_model.specs.Records.{RecordMap, IsValid, id_of, held_at, tag_place}
-use Rattle.kmem_model.specs.Heap.{Object, HeapState, StandsFor, address_of, hold_at, object_at, places_of, blank}
-use Rattle.record_heap.specs.View.{HeapView, HoldState}
+use Rattle.std.proofs.Common.{◌≡◌, ℕ, ◌-◌, Bool, true, false, Some, None, List, set, is_some, sym, ap, ap₂, ◌∙◌, subst}
+use Rattle.kmem_model.specs.Records.{id_of}
+use Rattle.kmem_model.specs.Heap.{HeapState, StandsFor, address_of, object_at, places_of}
+use Rattle.record_heap.specs.View.{HeapView}
 use Rattle.record_heap.specs.Kept.{IsKept}
-use Rattle.std.proofs.Math.Seq.{map-set_same}
 use Rattle.std.proofs.lemmas.List.{map-set}
 use Rattle.kmem_buf.specs.Homes.{IsOf}
 use Rattle.kmem_model.specs.RecordStep.{del_step}

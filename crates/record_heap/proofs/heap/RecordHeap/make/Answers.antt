@@ -1,8 +1,8 @@
-use Rattle.std.proofs.Common.{◌≡◌, ℕ, ◌+◌, ◌-◌, ◌*◌, ◌<◌, ◌≤◌, Bool, true, false, Option, Some, None, List, [], ◌∷◌, ◌++◌, length, get_or, set, map, replicate, is_some, option_map, count_by, sym, ap, ap₂, ◌∙◌, refl, subst, arith}
+use Rattle.std.proofs.Common.{◌≡◌, ◌+◌, ◌<◌, true, Option, Some, None, [], ◌∷◌, ◌++◌, length, set, is_some, sym, ap, ◌∙◌, subst, arith}
 use Rattle.std.proofs.lemmas.List.Sums.{count_by-le-length}
-use Rattle.kmem_model.specs.Records.{RecordMap, IsValid, id_of, held_at, tag_place, least_name, no_records}
-use Rattle.kmem_model.specs.Heap.{Object, HeapState, StandsFor, address_of, hold_at, object_at, places_of, has_record, is_leftover, blank}
-use Rattle.record_heap.specs.View.{HeapView, HoldState}
+use Rattle.kmem_model.specs.Records.{id_of}
+use Rattle.kmem_model.specs.Heap.{Object, HeapState, StandsFor, address_of, places_of, has_record, is_leftover}
+use Rattle.record_heap.specs.View.{HeapView}
 use Rattle.record_heap.specs.Kept.{IsKept}
 use Rattle.std.proofs.lemmas.List.{map-set}
 use Rattle.kmem_model.specs.RecordStep.{put_step}

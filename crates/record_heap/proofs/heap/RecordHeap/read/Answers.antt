@@ -1,9 +1,7 @@
-use Rattle.std.proofs.Common.{◌≡◌, ℕ, ◌+◌, ◌-◌, ◌*◌, ◌<◌, ◌≤◌, Bool, true, false, Option, Some, None, List, [], ◌∷◌, ◌++◌, length, get_or, set, map, replicate, is_some, option_map, count_by, sym, ap, ap₂, ◌∙◌, refl, subst, arith}
-use Rattle.std.proofs.lemmas.List.Sums.{count_by-le-length}
-use Rattle.kmem_model.specs.Records.{RecordMap, IsValid, id_of, held_at, tag_place, least_name, no_records}
-use Rattle.kmem_model.specs.Heap.{Object, HeapState, StandsFor, address_of, hold_at, object_at, places_of, blank}
-use Rattle.record_heap.specs.View.{HeapView, HoldState}
-use Rattle.record_heap.specs.Kept.{IsKept}
+use Rattle.std.proofs.Common.{◌≡◌, ℕ, Some, is_some, sym, ap₂, ◌∙◌, subst}
+use Rattle.kmem_model.specs.Records.{tag_place}
+use Rattle.kmem_model.specs.Heap.{StandsFor}
+use Rattle.record_heap.specs.View.{HeapView}
 use Rattle.record_heap.specs.Changes.{value_in}
 use Rattle.record_heap.proofs.Steps.{of_tag, value_there, read_some}
 use Rattle.record_heap.proofs.heap.RecordHeap.read.Goals as goal

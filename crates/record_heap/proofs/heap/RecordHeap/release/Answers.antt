@@ -1,14 +1,12 @@
-use Rattle.std.proofs.Common.{◌≡◌, ℕ, ◌+◌, ◌-◌, ◌*◌, ◌<◌, ◌≤◌, Bool, true, false, Option, Some, None, List, [], ◌∷◌, ◌++◌, length, get_or, set, map, replicate, is_some, option_map, count_by, sym, ap, ap₂, ◌∙◌, refl, subst, arith}
-use Rattle.std.proofs.lemmas.List.Sums.{count_by-le-length}
-use Rattle.kmem_model.specs.Records.{RecordMap, IsValid, id_of, held_at, tag_place, least_name, no_records}
-use Rattle.kmem_model.specs.Heap.{Object, HeapState, StandsFor, address_of, hold_at, object_at, places_of, blank}
-use Rattle.record_heap.specs.View.{HeapView, HoldState}
+use Rattle.std.proofs.Common.{◌≡◌, ℕ, ◌+◌, ◌-◌, true, false, Some, None, is_some, sym, ap, ap₂, ◌∙◌, subst, arith}
+use Rattle.kmem_model.specs.Records.{held_at, tag_place}
+use Rattle.kmem_model.specs.Heap.{HeapState, StandsFor, object_at, places_of, blank}
+use Rattle.record_heap.specs.View.{HeapView}
 use Rattle.record_heap.specs.Kept.{IsKept}
 use Rattle.kmem_model.specs.RecordStep.{drop_step}
-use Rattle.std.specs.Option.{option_map_or}
 use Rattle.std.proofs.Math.Seq.{map-set_same}
 use Rattle.record_heap.specs.Objects.{held_less, is_unused}
-use Rattle.record_heap.specs.Changes.{holds_in, changed_at, with_tag, untagged, with_object}
+use Rattle.record_heap.specs.Changes.{holds_in, changed_at, untagged, with_object}
 use Rattle.record_heap.proofs.Steps.{of_tag, places_changed, unused_is}
 use Rattle.record_heap.proofs.Holds.{object_less, untagged_kept, left_kept, untagged_stands, left_stands, some_record, held_some}
 use Rattle.record_heap.proofs.heap.RecordHeap.release.Goals as goal

@@ -1,8 +1,7 @@
-use Rattle.std.proofs.Common.{◌≡◌, ℕ, ◌+◌, ◌-◌, ◌*◌, ◌<◌, ◌≤◌, Bool, true, false, Option, Some, None, List, [], ◌∷◌, ◌++◌, length, get_or, set, map, replicate, is_some, option_map, count_by, sym, ap, ap₂, ◌∙◌, refl, subst, arith}
-use Rattle.std.proofs.lemmas.List.Sums.{count_by-le-length}
-use Rattle.kmem_model.specs.Records.{RecordMap, IsValid, id_of, held_at, tag_place, least_name, no_records}
-use Rattle.kmem_model.specs.Heap.{Object, HeapState, StandsFor, address_of, hold_at, object_at, places_of, blank}
-use Rattle.record_heap.specs.View.{HeapView, HoldState}
+use Rattle.std.proofs.Common.{◌≡◌, Option, Some, sym, ap, ap₂, ◌∙◌, subst}
+use Rattle.kmem_model.specs.Records.{id_of}
+use Rattle.kmem_model.specs.Heap.{Object, HeapState, StandsFor, address_of, places_of}
+use Rattle.record_heap.specs.View.{HeapView}
 use Rattle.record_heap.specs.Kept.{IsKept}
 use Rattle.kmem_text.specs.declared.command.Reply.{Reply}
 use Rattle.kmem_text.specs.declared.command.Reply.TheVariants.{Was}
@@ -10,8 +9,6 @@ use Rattle.kmem_model.specs.RecordStep.{put_step}
 use Rattle.kmem_buf.specs.Buffers.{BufState}
 use Rattle.record_heap.specs.declared.heap.put.PutEnd.TheVariants.{Replied}
 use Rattle.record_heap.specs.Objects.{with_value}
-use Rattle.record_heap.specs.Changes.{value_in, valued}
-use Rattle.record_heap.specs.Puts.{offered}
 use Rattle.record_heap.proofs.Steps.{of_name, value_there, valued_kept, places_changed}
 use Rattle.record_heap.proofs.Holds.{put_stands}
 use Rattle.record_heap.proofs.Puts.{was_put}

@@ -1,13 +1,13 @@
-use Rattle.std.proofs.Common.{◌≡◌, ℕ, ◌+◌, ◌-◌, ◌*◌, ◌<◌, ◌≤◌, Bool, true, false, Option, Some, None, List, [], ◌∷◌, ◌++◌, length, get_or, set, map, replicate, is_some, option_map, count_by, sym, ap, ap₂, ◌∙◌, refl, subst, arith}
+use Rattle.std.proofs.Common.{◌≡◌, ◌+◌, ◌-◌, ◌<◌, true, Some, None, [], ◌∷◌, ◌++◌, length, is_some, sym, ap, ◌∙◌, subst, arith}
 use Rattle.std.proofs.lemmas.List.Sums.{count_by-le-length}
-use Rattle.kmem_model.specs.Records.{RecordMap, IsValid, id_of, held_at, tag_place, least_name, no_records}
-use Rattle.kmem_model.specs.Heap.{Object, HeapState, StandsFor, address_of, hold_at, object_at, places_of, has_record, is_leftover, blank}
-use Rattle.record_heap.specs.View.{HeapView, HoldState}
+use Rattle.kmem_model.specs.Records.{id_of}
+use Rattle.kmem_model.specs.Heap.{HeapState, StandsFor, address_of, object_at, places_of, is_leftover, blank}
+use Rattle.record_heap.specs.View.{HeapView}
 use Rattle.record_heap.specs.Kept.{IsKept}
 use Rattle.std.proofs.Math.Seq.{map-set_same}
 use Rattle.kmem_model.specs.RecordStep.{put_step}
 use Rattle.record_heap.specs.Changes.{made, first_object}
-use Rattle.record_heap.proofs.Lists.{reads_the}
+use Rattle.kmem_model.proofs.RecordsValid.{read_within}
 use Rattle.record_heap.proofs.Kept.{one_if, leftover_blank}
 use Rattle.record_heap.proofs.Stands.{no_record}
 use Rattle.record_heap.proofs.Puts.{made_kept, made_stands, left_free, fewer_left}
@@ -28,7 +28,7 @@ overflow_add-self c =
     let below : n < length h.names = omega (arith, c.requires.name, ap (λ (v : HeapView). length v.heap.names) c.self.view_is) in
     let was : address_of h n ≡ None = ap (λ (v : HeapView). address_of v.heap n) c.self.view_is ∙ c.requires.absent in
     let left : is_leftover (object_at h b) ≡ true = ap (λ (v : HeapView). is_leftover (object_at v.heap b)) c.self.view_is ∙ c.requires.leftover in
-    let low : b < length h.objects = reads_the h.objects b blank (leftover_blank h f.present f.records f.leftovers c.self.invariant b left) in
+    let low : b < length h.objects = read_within h.objects b blank (leftover_blank h f.present f.records f.leftovers c.self.invariant b left) in
     let k = made_kept h f.present f.records f.leftovers c.self.invariant n b c.args.value below low was (left_free h f.present f.records f.leftovers c.self.invariant b left) (no_record (object_at h b) left) (f.leftovers - 1)
     (omega (arith, fewer_left h f.present f.records f.leftovers c.self.invariant b left, ap one_if left)) in
     omega (arith, k.names_counted, k.names, count_by-le-length is_some (made h n b c.args.value).names)
@@ -48,7 +48,7 @@ invariant_of-self c =
     let below : n < length h.names = omega (arith, c.requires.name, ap (λ (v : HeapView). length v.heap.names) c.self.view_is) in
     let was : address_of h n ≡ None = ap (λ (v : HeapView). address_of v.heap n) c.self.view_is ∙ c.requires.absent in
     let left : is_leftover (object_at h b) ≡ true = ap (λ (v : HeapView). is_leftover (object_at v.heap b)) c.self.view_is ∙ c.requires.leftover in
-    let low : b < length h.objects = reads_the h.objects b blank (leftover_blank h f.present f.records f.leftovers c.self.invariant b left) in
+    let low : b < length h.objects = read_within h.objects b blank (leftover_blank h f.present f.records f.leftovers c.self.invariant b left) in
     subst (λ (k : HeapState). IsKept k (f.present + 1) (f.records + 1) (f.leftovers - 1)) (sym (ap (λ (v : HeapView). v.heap) c.reuse.ensures))
     (made_kept h f.present f.records f.leftovers c.self.invariant n b c.args.value below low was (left_free h f.present f.records f.leftovers c.self.invariant b left) (no_record (object_at h b) left) (f.leftovers - 1)
     (omega (arith, fewer_left h f.present f.records f.leftovers c.self.invariant b left, ap one_if left)))
@@ -62,7 +62,7 @@ returns-clause-new c = λ m a valid s.
     let below : n < length h.names = omega (arith, c.requires.name, ap (λ (v : HeapView). length v.heap.names) c.self.view_is) in
     let was : address_of h n ≡ None = ap (λ (v : HeapView). address_of v.heap n) c.self.view_is ∙ c.requires.absent in
     let left : is_leftover (object_at h b) ≡ true = ap (λ (v : HeapView). is_leftover (object_at v.heap b)) c.self.view_is ∙ c.requires.leftover in
-    let low : b < length h.objects = reads_the h.objects b blank (leftover_blank h f.present f.records f.leftovers c.self.invariant b left) in
+    let low : b < length h.objects = read_within h.objects b blank (leftover_blank h f.present f.records f.leftovers c.self.invariant b left) in
     subst (λ (k : HeapState). StandsFor (put_step m n c.args.value (id_of m n)).map (a ++ b ∷ []) k) (sym (ap (λ (v : HeapView). v.heap) c.reuse.ensures))
     (made_stands h f.present f.records f.leftovers c.self.invariant n b c.args.value below low was (left_free h f.present f.records f.leftovers c.self.invariant b left) (no_record (object_at h b) left) m a valid
     (subst (λ (v : HeapView). StandsFor m a v.heap) (sym c.self.view_is) s))

@@ -1,12 +1,10 @@
-use Rattle.std.proofs.Common.{◌≡◌, ℕ, ◌+◌, ◌-◌, ◌<◌, ◌≤◌, Bool, true, false, Option, Some, None, List, [], ◌∷◌, length, get_or, set, map, is_some, option_map, count_by, sym, ap, ap₂, ◌∙◌, refl, subst, arith}
-use Rattle.std.proofs.lemmas.List.Sums.{count_by-le-length}
-use Rattle.kmem_model.specs.Records.{RecordMap, IsValid, id_of, held_at, tag_place}
-use Rattle.kmem_model.specs.Heap.{Object, HeapState, StandsFor, address_of, hold_at, object_at, places_of, blank}
-use Rattle.record_heap.specs.View.{HeapView, HoldState}
+use Rattle.std.proofs.Common.{◌≡◌, Some, sym, ap, ◌∙◌, subst}
+use Rattle.kmem_model.specs.Records.{id_of}
+use Rattle.kmem_model.specs.Heap.{HeapState, StandsFor, address_of, places_of}
+use Rattle.record_heap.specs.View.{HeapView}
 use Rattle.record_heap.specs.Kept.{IsKept}
 use Rattle.kmem_model.specs.RecordStep.{fix_step}
 use Rattle.record_heap.specs.Objects.{with_fixed}
-use Rattle.record_heap.specs.Changes.{fixed_at}
 use Rattle.record_heap.proofs.Steps.{of_name, places_changed, fixed_kept}
 use Rattle.record_heap.proofs.Holds.{fix_stands}
 use Rattle.record_heap.proofs.heap.RecordHeap.set_fixed.Goals as goal

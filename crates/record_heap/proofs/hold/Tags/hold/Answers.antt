@@ -1,4 +1,4 @@
-use Rattle.std.proofs.Common.{ℕ, ◌≡◌, ◌<◌, ◌∷◌, Option, Some, None, List, length, get_or, set, arith, sym, ap, ap₂, refl, ◌∙◌}
+use Rattle.std.proofs.Common.{ℕ, ◌<◌, Option, Some, None, List, length, get_or, set, arith, sym, ap, ap₂, refl, ◌∙◌}
 use Rattle.std.proofs.Math.Seq.{map-set_same}
 use Rattle.std.proofs.lemmas.Option.{slice_get-get_or}
 use Rattle.std.proofs.lemmas.List.{length-map, get_or-map}

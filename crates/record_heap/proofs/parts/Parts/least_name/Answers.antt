@@ -1,7 +1,6 @@
-use Rattle.std.proofs.Common.{◌≡◌, ◌<◌, ◌≤◌, ◌&&◌, ℕ, nat_le, Option, None, is_some, length, get_or, arith, sym, ap, ◌∙◌, true, false, below_more}
+use Rattle.std.proofs.Common.{◌≡◌, ◌<◌, ◌&&◌, nat_le, None, is_some, length, get_or, arith, sym, ap, ◌∙◌, true, false, below_more}
 use Rattle.std.proofs.lemmas.Bool.{le-leb, and_from, and_right}
 use Rattle.std.proofs.lemmas.List.{get_or_default}
-use Rattle.kmem_model.specs.Heap.{address_of}
 use Rattle.record_heap.specs.View.{HeapView}
 use Rattle.record_heap.proofs.parts.Parts.least_name.Goals as goal
 

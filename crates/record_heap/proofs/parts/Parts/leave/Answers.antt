@@ -1,6 +1,5 @@
-use Rattle.std.proofs.Common.{ℕ, ◌≡◌, Option, Some, None, List, get_or, set, sym, ap, ap₂, ◌∙◌, arith}
+use Rattle.std.proofs.Common.{Some, set, ap, ◌∙◌}
 use Rattle.kmem_model.specs.Heap.{Object, blank}
-use Rattle.record_heap.specs.Shelves.{ShelfState}
 use Rattle.record_heap.specs.View.{HeapView}
 use Rattle.record_heap.specs.Changes.{with_object}
 use Rattle.record_heap.proofs.Shelved.{put_back, view_of}

@@ -1,16 +1,16 @@
-use Rattle.std.proofs.Common.{ℕ, ◌≡◌, ◌<◌, ◌==◌, Bool, true, Option, Some, None, List, [], length, get_or, set, map, cond, sym, ap, ap₂, ◌∙◌, arith}
+use Rattle.std.proofs.Common.{ℕ, ◌≡◌, ◌==◌, true, Option, Some, None, List, [], length, get_or, set, map, cond, sym, ap, ap₂, ◌∙◌, arith}
 use Rattle.std.specs.List.{list_any}
 use Rattle.std.specs.Option.{option_map_or}
 use Rattle.std.specs.Vec.{with_items}
 use Rattle.std.proofs.lemmas.List.{with_items_is}
 use Rattle.kmem_buf.specs.Buffers.{BufState}
 use Rattle.kmem_model.specs.CacheOrder.{is_the}
-use Rattle.kmem_model.specs.Heap.{Object, blank, address_of, object_at}
+use Rattle.kmem_model.specs.Heap.{Object, address_of, object_at}
 use Rattle.kmem_model.specs.Says.{moved_name, relocated}
 use Rattle.record_heap.specs.Shelves.{ShelfState}
 use Rattle.record_heap.specs.View.{HeapView}
 use Rattle.record_heap.specs.Changes.{names_in}
-use Rattle.record_heap.proofs.Lists.{reads_the, is_the-some}
+use Rattle.kmem_model.proofs.RecordsValid.{read_within, is_the_some}
 use Rattle.record_heap.proofs.Moved.{renamed_is}
 use Rattle.record_heap.proofs.Shelved.{view_of, moved_in}
 use Rattle.record_heap.proofs.parts.Parts.relocate.Goals as goal
@@ -27,7 +27,7 @@ rename-requires c = λ name any.
     ∙ (sym (ap (λ (y : Option Object). option_map_or (λ (q : Object). q.names) y []) c.take-old.ensures.object) ∙ ap (λ (v : HeapView). names_in v.heap from) now_is)) in
     let leads : is_the (address_of c.args.self.now.heap name) from ≡ true =
     sym (ap (λ (xs : List ℕ). list_any (λ other. other == name) xs) names ∙ c.requires.names name) ∙ any in
-    omega (arith, reads_the c.args.self.now.heap.names name from (is_the-some (address_of c.args.self.now.heap name) from leads), ap (λ (v : HeapView). length v.heap.names) now_is, ap (λ (xs : List (Option ℕ)). length xs) c.deref_mut.ensures.value)
+    omega (arith, read_within c.args.self.now.heap.names name from (is_the_some (address_of c.args.self.now.heap name) from leads), ap (λ (v : HeapView). length v.heap.names) now_is, ap (λ (xs : List (Option ℕ)). length xs) c.deref_mut.ensures.value)
 
 pub returns-clause-parts : goal.returns-clause-parts
 returns-clause-parts c =

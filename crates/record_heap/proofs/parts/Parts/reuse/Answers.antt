@@ -1,4 +1,4 @@
-use Rattle.std.proofs.Common.{ℕ, ◌≡◌, Option, Some, None, List, get_or, set, sym, ap, ap₂, ◌∙◌}
+use Rattle.std.proofs.Common.{ℕ, Option, Some, None, List, set, ap, ap₂, ◌∙◌}
 use Rattle.std.proofs.lemmas.List.{set-set}
 use Rattle.kmem_model.specs.Heap.{Object}
 use Rattle.record_heap.specs.Shelves.{ShelfState}

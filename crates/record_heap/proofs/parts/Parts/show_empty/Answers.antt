@@ -1,7 +1,4 @@
-use Rattle.std.proofs.Common.{ℕ, ◌≡◌, Option, Some, None, List, get_or, set, sym, ap, ap₂, ◌∙◌, arith}
-use Rattle.kmem_model.specs.Heap.{Object, blank}
-use Rattle.record_heap.specs.Shelves.{ShelfState}
-use Rattle.record_heap.specs.View.{HeapView}
+use Rattle.std.proofs.Common.{ap, ◌∙◌}
 use Rattle.record_heap.proofs.Shelved.{taken_again, view_of}
 use Rattle.record_heap.proofs.parts.Parts.show_empty.Goals as goal
 

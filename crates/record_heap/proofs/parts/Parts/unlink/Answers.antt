@@ -1,6 +1,4 @@
-use Rattle.std.proofs.Common.{ℕ, ◌≡◌, Option, Some, None, List, get_or, set, sym, ap, ap₂, ◌∙◌, arith}
-use Rattle.kmem_model.specs.Heap.{Object, blank}
-use Rattle.record_heap.specs.Shelves.{ShelfState}
+use Rattle.std.proofs.Common.{None, set, ap, ◌∙◌}
 use Rattle.record_heap.specs.View.{HeapView}
 use Rattle.record_heap.specs.Objects.{without_back}
 use Rattle.record_heap.specs.Changes.{unlinked}

@@ -1,4 +1,4 @@
-use Rattle.std.proofs.Common.{ℕ, ◌≡◌, ◌≤◌, List, Option, None, replicate, length, arith, sym, ap, subst, ◌∙◌}
+use Rattle.std.proofs.Common.{ℕ, ◌≡◌, List, Option, None, replicate, arith, sym, ap, subst, ◌∙◌}
 use Rattle.kmem_buf.specs.Buffers.{BufState}
 use Rattle.kmem_model.specs.Heap.{Object}
 use Rattle.record_heap.specs.Shelves.{AreShelved, objects_of}

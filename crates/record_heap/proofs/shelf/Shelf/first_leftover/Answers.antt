@@ -1,4 +1,4 @@
-use Rattle.std.proofs.Common.{◌≡◌, ◌<◌, ℕ, Option, None, length, get_or, option_map, arith, sym, ap, ◌∙◌}
+use Rattle.std.proofs.Common.{◌<◌, None, length, get_or, option_map, arith, sym, ap, ◌∙◌}
 use Rattle.std.proofs.lemmas.List.{length-map}
 use Rattle.kmem_buf.specs.Buffers.{BufState}
 use Rattle.kmem_model.specs.Heap.{Object, is_leftover}

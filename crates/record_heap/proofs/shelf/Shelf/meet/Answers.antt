@@ -1,8 +1,6 @@
-use Rattle.std.proofs.Common.{ℕ, ◌≡◌, Option, Some, None, List, get_or, set, sym, ap, ap₂, ◌∙◌}
-use Rattle.std.proofs.lemmas.List.{set-set, set-get_or}
+use Rattle.std.proofs.Common.{Some, sym, ap, ◌∙◌}
 use Rattle.kmem_buf.specs.Buffers.{BufState}
 use Rattle.kmem_model.specs.Heap.{Object}
-use Rattle.record_heap.specs.Shelves.{ShelfState}
 use Rattle.record_heap.proofs.Shelved.{put_back, back_same}
 use Rattle.record_heap.proofs.shelf.Shelf.meet.Goals as goal
 

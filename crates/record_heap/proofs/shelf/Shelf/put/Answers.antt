@@ -1,4 +1,4 @@
-use Rattle.std.proofs.Common.{ℕ, ◌≡◌, ◌<◌, ◌∷◌, Option, Some, None, List, length, get_or, set, is_some, option_map, arith, sym, ap, ap₂, refl, subst, ◌∙◌}
+use Rattle.std.proofs.Common.{ℕ, ◌≡◌, ◌<◌, Option, Some, None, List, length, get_or, set, option_map, arith, sym, ap, ap₂, subst, ◌∙◌}
 use Rattle.std.proofs.lemmas.Option.{slice_get_within}
 use Rattle.std.proofs.lemmas.List.{get_or_read, length-map, set-set}
 use Rattle.kmem_buf.specs.Buffers.{BufState}
