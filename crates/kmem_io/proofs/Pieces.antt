@@ -1,8 +1,8 @@
 -- How the words on known bytes go on from call to call.
-use Rattle.std.proofs.Common.{◌≡◌, ℕ, ◌+◌, ◌-◌, length, List, ◌++◌, Option, None, Some, take, drop, sym, ap, ◌∙◌, append_assoc, subst, length-drop, ◌≤◌, arith, length-take-le}
+use Rattle.std.proofs.Common.{◌≡◌, ℕ, ◌+◌, ◌-◌, length, List, ◌++◌, Option, take, drop, sym, ap, ◌∙◌, subst, length-drop, ◌≤◌, arith, length-take-le}
 use Rattle.std.proofs.Math.Seq.{take-add}
 use Rattle.std.proofs.lemmas.List.{take-append-drop, take_rest, take_at, drop-drop}
-use Rattle.std.specs.Io.KnownBytes.{Appends, Consumes, Keeps}
+use Rattle.std.specs.Io.KnownBytes.{Appends, Keeps}
 use Rattle.kmem_io.specs.Streams.{AppendsFront, Appends-then, Appends-kept}
 
 -- the next n bytes after the first at
@@ -15,13 +15,6 @@ Appends-more a b c at n xs p q =
 -- a front of the bytes was appended, and then nothing
 pub AppendsFront-kept : (a b c : Option (List ℕ)) (at : ℕ) (xs : List ℕ) → Appends a b (take at xs) → Keeps b c → AppendsFront a c xs
 AppendsFront-kept a b c at xs p q = (take at xs, drop at xs, sym (take-append-drop at xs), Appends-kept a b c (take at xs) p q)
-
--- first one piece was read, and then another
-pub Consumes-then : (a b c : Option (List ℕ)) (xs ys : List ℕ) → Consumes a b xs → Consumes b c ys → Consumes a c (xs ++ ys)
-Consumes-then None b c xs ys p q = tt
-Consumes-then (Some x) None c xs ys p q = absurd p
-Consumes-then (Some x) (Some y) None xs ys p q = absurd q
-Consumes-then (Some x) (Some y) (Some z) xs ys p q = p ∙ ap (λ w. xs ++ w) q ∙ sym (append_assoc xs ys z)
 
 -- what is left from a place on has so many elements
 pub length-take_rest : (xs : List ℕ) (at : ℕ) → length (take (length xs - at) (drop at xs)) ≡ length xs - at

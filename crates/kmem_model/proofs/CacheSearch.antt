@@ -67,14 +67,6 @@ some_from_least (suc n) test k least =
     earlier (Some m) is = is
     earlier None is = absurd (cc)
 
--- where some number passes, one is found
-pub some_from_passes : (n : ℕ) (test : ℕ → Bool) (k : ℕ) → k < n → test k ≡ true → is_some (least_below n test) ≡ true
-some_from_passes n test k below passes = step (least_below n test) (fails_from_none n test)
-  where
-    step : (o : Option ℕ) → (o ≡ None → (j : ℕ) → j < n → test j ≡ false) → is_some o ≡ true
-    step (Some m) none = refl
-    step None none = absurd (both_ways (test k) (none refl k below) passes)
-
 -- what is_none of an option says
 pub is_none_says : {X : Type 0} (o : Option X) → is_none o ≡ true → o ≡ None
 is_none_says (Some x) e = absurd (cc)

@@ -1,8 +1,7 @@
 -- What a heap and a cache do at a command is the step of `one`.
-use Rattle.std.proofs.Common.{◌≡◌, ◌≢◌, ℕ, ◌+◌, ◌<◌, ◌≤◌, ◌==◌, ◌&&◌, ◌||◌, not, ◌++◌, ◌*◌, ◌/◌, ◌%◌, Bool, true, false, cond, List, [], ◌∷◌, length, map, replicate, get_or, set, option_map, Option, Some, None, is_some, is_none, ◌⊎◌, inl, inr, ⊎_elim, sym, ◌∙◌, ap, refl, subst, arith}
-use Rattle.std.specs.Bool.{then_some}
+use Rattle.std.proofs.Common.{◌≡◌, ℕ, ◌<◌, ◌≤◌, ◌==◌, ◌&&◌, ◌||◌, not, ◌++◌, ◌*◌, ◌/◌, ◌%◌, Bool, true, false, List, [], ◌∷◌, length, replicate, get_or, set, option_map, Option, Some, None, is_some, is_none, ◌⊎◌, inl, inr, ⊎_elim, sym, ◌∙◌, ap, refl, subst, arith}
 use Rattle.std.specs.Option.{option_map_or}
-use Rattle.std.proofs.lemmas.Bool.{cases_lt, cases_eq, cases_Bool, both_ways, cond-true, cond-false, cond_both, eq-eqb, ne_eqb, and_left, and_right, and_from, eqb-true}
+use Rattle.std.proofs.lemmas.Bool.{cases_lt, cases_eq, both_ways, cond-true, cond-false, cond_both, eq-eqb, ne_eqb, and_left, and_right, and_from}
 use Rattle.std.proofs.lemmas.List.{get_or-set_same, get_or-set_other, get_or-replicate, get_or_past, length-map, length-set, length-replicate}
 use Rattle.kmem_text.specs.declared.command.NameId.{NameId}
 use Rattle.kmem_text.specs.declared.command.Command.{Command}
@@ -25,7 +24,7 @@ use Rattle.kmem_model.specs.CacheEnter.{is_full, may_take, with_out, enter}
 use Rattle.kmem_model.specs.declared.cache_entry.CacheEntry.{CacheEntry}
 use Rattle.kmem_model.specs.declared.cache_entry.CacheEntry.TheVariants as entry
 use Rattle.kmem_model.specs.Records.{RecordMap, id_of, held_at, is_live, live_count, tag_place, no_records, IsValid}
-use Rattle.kmem_model.specs.RecordStep.{Step, put_step, del_step, read_step, write_step, drop_step, step, only_looks, leaves_tags, IsInRange, IsValidAs}
+use Rattle.kmem_model.specs.RecordStep.{put_step, read_step, write_step, drop_step, step, only_looks, leaves_tags, IsInRange}
 use Rattle.kmem_model.specs.Heap.{Object, HeapState, StandsFor, hold_at, object_at, address_of, address_in, places_of, has_record, is_leftover}
 use Rattle.kmem_model.specs.History.{is_full_due, is_put_of_absent}
 use Rattle.kmem_model.specs.One.{OneState, OneStep, buffers_of, entered_by, least_leftover, address_for, cache_with, cache_without, placed_step, one_step, one_start, one_workers, one_limit}
@@ -209,9 +208,6 @@ refused_ends s h worker name value stands absent full none =
     (record { replies = refl; leaves = refl; stands = stands })
 
 -- A del
-
-del_taken : (s : OneState) (worker : ℕ) (name : NameId) → one_step s worker (Del name) ≡ record { reply = (step s.map worker (Del name)).reply; state = record { map = (step s.map worker (Del name)).map; cache = cache_without s (step s.map worker (Del name)).map (id_of s.map name.0); addresses = s.addresses } }
-del_taken s worker name = refl
 
 -- where the record lives on, or there is none, the cache stays
 pub kept_ends : (s : OneState) (h new : HeapState) (worker : ℕ) (name : NameId) → OneStands s h → IsInRange s.map worker (Del name) → ((id : ℕ) → id_of s.map name.0 ≡ Some id → is_live (step s.map worker (Del name)).map id ≡ true) → StandsFor (step s.map worker (Del name)).map s.addresses new → places_of new ≡ places_of h → OneEnds (one_step s worker (Del name)) (step s.map worker (Del name)).reply s.cache new

@@ -312,9 +312,6 @@ module _ (stage : Stage) (whole : IsWholeStage stage) (from to : ℕ) (said : Sa
   to_free : is_out s to ≡ false
   to_free = ap₂ (λ i n. is_out_on (slab_at xs i) n) f_row f_index ∙ choice.free
 
-  from_other : to ≢ from
-  from_other same = both_ways (is_out s to) to_free (ap (is_out s) same ∙ from_out)
-
   from_known : is_known (said_at stage from) ≡ true
   from_known = whole.known from ∙ from_out
 

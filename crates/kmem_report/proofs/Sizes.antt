@@ -1,8 +1,8 @@
 -- Every entry keeps how many slabs a cache has, and how many buffers a slab has.
-use Rattle.std.proofs.Common.{◌≡◌, ℕ, ◌/◌, ◌%◌, Bool, true, false, cond, List, [], ◌∷◌, map, length-set, set, Option, Some, None, option_map, option_and_then, ◌∙◌, subst, refl}
-use Rattle.std.proofs.lemmas.List.{length-map, length-replicate}
+use Rattle.std.proofs.Common.{◌≡◌, ℕ, ◌/◌, ◌%◌, Bool, true, false, cond, List, [], ◌∷◌, map, length-set, set, Option, Some, None, option_map, option_and_then, ◌∙◌, subst}
+use Rattle.std.proofs.lemmas.List.{length-map}
 use Rattle.std.specs.Bool.{then_some}
-use Rattle.kmem_model.specs.CacheState.{SlabState, CacheState, slab_at, slab_in_source, is_out, move_at, has_pending, opening}
+use Rattle.kmem_model.specs.CacheState.{SlabState, CacheState, slab_at, is_out, move_at, has_pending}
 use Rattle.kmem_model.specs.CacheEnter.{unmarked, slab_taken, slab_freed, slab_given_back, slab_answered, on_slab_of, with_out, emptied_goes, freed, all_freed, handed_back, without_move, with_answer, scan_started, gone, ended, enter}
 use Rattle.kmem_model.specs.declared.cache_state.PendingMove.{PendingMove}
 use Rattle.kmem_model.specs.declared.cache_entry.Said.{Said}
@@ -89,7 +89,3 @@ sizes_kept n k s t Forget e p =
     let cleared : CacheState = record s { slabs = map unmarked s.slabs } in
     let same : cleared ≡ t = cc in
     subst (HasSizes n k) same (record { slabs = length-map s.slabs unmarked ∙ p.slabs; chunks = p.chunks })
-
--- and the opening has those that it is opened with
-pub sizes_opening : (slabs chunks limit : ℕ) → HasSizes slabs chunks (opening slabs chunks limit)
-sizes_opening slabs chunks limit = record { slabs = length-replicate slabs (slab_in_source chunks); chunks = refl }

@@ -83,9 +83,6 @@ token_next : (token blanks rest : List ℕ) → IsToken token → 0 < length bla
 token_next token [] rest h some e = absurd (omega (arith, some))
 token_next token (b ∷ blanks) rest h some e = token_first token b (blanks ++ rest) h e.0 ∙ ap (λ ts. token ∷ ts) (blanks_skipped blanks rest e.1)
 
-spaced_text : Spaced → List ℕ
-spaced_text part = part.blanks ++ part.token
-
 tokens_laid : (token : List ℕ) (further : List Spaced) (end : List ℕ) → IsToken token → AllByRecursion IsSpaced further → AreBlanks end → tokens_in (token ++ (flat_map (λ part. part.blanks ++ part.token) further ++ end)) ≡ token ∷ map (λ part. part.token) further
 tokens_laid token [] end h hs e = token_last token end h e
 tokens_laid token (part ∷ further) end h hs e =

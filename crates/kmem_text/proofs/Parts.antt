@@ -2,7 +2,6 @@
 use Rattle.std.proofs.Common.{◌≡◌, ◌==◌, ℕ, ◌+◌, ◌-◌, ◌<◌, ◌≤◌, suc, Bool, true, false, cond, not, List, [], ◌∷◌, ◌++◌, Option, Some, None, unwrap_or, filter, nat_lt, if◌then◌else◌, length, take, drop, refl, sym, ap, ◌∙◌, subst, arith, length-drop, min, Ok, Err, append_assoc, append-nil, length-take-le, length-append, map, Bor, inl, inr}
 use Rattle.std.specs.List.{slice_split, onto_first, position, position_or_len}
 use Rattle.std.proofs.lemmas.Option.{cond_some}
-use Rattle.std.proofs.Math.Seq.{take-nil}
 use Rattle.std.proofs.lemmas.List.{map-append}
 use Rattle.std.proofs.lemmas.List.{take_rest, take_at, take_all, take-append-le, length-take}
 use Rattle.std.proofs.lemmas.Bool.{false≢true, cases_lt}
@@ -124,10 +123,6 @@ pub cuts_some : (line token rest : List ℕ) → Cuts line token rest → (lengt
 cuts_some line [] rest h some = absurd (false≢true (sym some))
 cuts_some line (b ∷ bs) rest h some = h
 
-pub cuts_none : (line token rest : List ℕ) → Cuts line token rest → (length token == 0) ≡ true → tokens_in line ≡ []
-cuts_none line [] rest h none = h
-cuts_none line (b ∷ bs) rest h none = absurd (grind (arith, nat_tests))
-
 -- one token more is taken
 pub token_more : (front : List (List ℕ)) (token : List ℕ) (behind more all : List (List ℕ)) (n : ℕ) → n < 5 → behind ≡ token ∷ more → front ++ take (5 - n) behind ≡ all → (front ++ token ∷ []) ++ take (5 - (n + 1)) more ≡ all
 token_more front token behind more all n small is h =
@@ -142,13 +137,6 @@ more_tokens front longer token behind more all put small is h =
     ∙ ap (λ xs. xs ++ take (5 - length (front ++ token ∷ [])) more) (map-append (λ (t : Bor (List ℕ)). t.now) front (token ∷ []))
     ∙ ap (λ n. (map (λ (t : Bor (List ℕ)). t.now) front ++ token.now ∷ []) ++ take (5 - n) more) size
     ∙ token_more (map (λ (t : Bor (List ℕ)). t.now) front) token.now behind more all (length front) small is h
-
--- no token more is there, or none more is taken
-pub tokens_all : (front behind all : List (List ℕ)) (n : ℕ) → behind ≡ [] → front ++ take (5 - n) behind ≡ all → front ≡ all
-tokens_all front behind all n none h = sym (append-nil front) ∙ ap (λ ts. front ++ ts) (sym (ap (take (5 - n)) none ∙ take-nil (5 - n))) ∙ h
-
-pub tokens_full : (front behind all : List (List ℕ)) (n : ℕ) → 5 ≤ n → front ++ take (5 - n) behind ≡ all → front ≡ all
-tokens_full front behind all n full h = let none : 5 - n ≡ 0 = omega arith in sym (append-nil front) ∙ ap (λ k. front ++ take k behind) (sym none) ∙ h
 
 -- three tokens behind a word are too many
 too_many : (w : CommandWord) (c d e : List ℕ) (more : List (List ℕ)) → further_of w (c ∷ d ∷ e ∷ more) ≡ Err Words

@@ -1,5 +1,5 @@
 -- The report of a bench is that of `one`.
-use Rattle.std.proofs.Common.{◌≡◌, ◌++◌, ℕ, true, false, List, [], Option, Some, None, is_some, refl, sym, ap, ◌∙◌}
+use Rattle.std.proofs.Common.{◌≡◌, ◌++◌, ℕ, true, List, [], Option, Some, None, is_some, refl, sym, ap, ◌∙◌}
 use Rattle.std.specs.Io.KnownBytes.{Appends}
 use Rattle.std.proofs.lemmas.List.{append-nil}
 use Rattle.kmem_io.specs.Streams.{AppendsFront, AppendsFront-behind}
@@ -36,10 +36,6 @@ report_is run live moves settled state lives none counts same =
 pub after_some : (every : Option ℕ) (run : OneRun) → is_some every ≡ true → report_after every run ≡ report_text (report_of (run_ended run))
 after_some (Some n) run e = refl
 after_some None run e = absurd (cc)
-
-pub after_none : (every : Option ℕ) (run : OneRun) → is_some every ≡ false → report_after every run ≡ []
-after_none None run e = refl
-after_none (Some n) run e = absurd (cc)
 
 nothing : (b : Option (List ℕ)) → Appends b b []
 nothing None = tt

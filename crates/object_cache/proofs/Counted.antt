@@ -1,7 +1,7 @@
 -- Counts over the slabs, one slab at a time.
-use Rattle.std.proofs.Common.{◌≡◌, ℕ, ◌+◌, ◌<◌, ◌≤◌, Bool, true, false, cond, List, length, get_or, take, count_by, sum_by, arith}
+use Rattle.std.proofs.Common.{ℕ, ◌+◌, ◌<◌, ◌≤◌, Bool, true, false, cond, length, get_or, take, sum_by, arith}
 use Rattle.std.specs.Bool.{if◌then◌else◌}
-use Rattle.std.proofs.lemmas.List.Sums.{sum_by_more, sum_by-take-le, sum_by-le, count_by-le-length, count_by_more_yes}
+use Rattle.std.proofs.lemmas.List.Sums.{sum_by_more, sum_by-take-le, sum_by-le, count_by-le-length}
 use Rattle.kmem_model.specs.CacheState.{SlabState, slab_at, no_slab, is_listed, used, free_buffers}
 use Rattle.kmem_model.specs.CacheOrder.{is_partial}
 use Rattle.slab_list.specs.Slabs.{ListState, IsWhole, IsSlab}
@@ -13,16 +13,6 @@ free_on slab = if is_listed slab then free_buffers slab else 0
 -- the free buffers of a slab, if it is partial
 abbrev pub free_partial : SlabState → ℕ
 free_partial slab = if is_partial slab then free_buffers slab else 0
-
-pub few_listed : (p : SlabState → Bool) (slabs : List SlabState) (i : ℕ) → i < length slabs → p (slab_at slabs i) ≡ true →
-    count_by p (take i slabs) + 1 ≤ length slabs
-few_listed p slabs i below passes =
-    omega (
-      arith,
-      count_by_more_yes p slabs i no_slab below passes,
-      sum_by-take-le (λ x. cond (p x) 1 0) slabs (i + 1),
-      count_by-le-length p slabs,
-    )
 
 few_by : (s : ListState) → IsWhole s → (f : SlabState → ℕ) → ((slab : SlabState) → f slab ≤ length slab.out) → sum_by f s.slabs ≤ 65536
 few_by s w f low =

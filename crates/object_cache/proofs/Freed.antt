@@ -43,14 +43,6 @@ module _ (to : Standing) (slab : SlabState) (k : ℕ) where
   pub closed_freed : slab_closed to (slab_freed Listed slab k) ≡ slab_freed to slab k
   closed_freed = closed is_empty (is_the slab.stuck k) refl
 
-  still_listed : (empty stuck : Bool) → is_listed slab ≡ true → is_listed (freed Listed empty stuck) ≡ true
-  still_listed true stuck e = refl
-  still_listed false true e = e
-  still_listed false false e = e
-
-  pub freed_listed : is_listed slab ≡ true → is_listed (slab_freed Listed slab k) ≡ true
-  freed_listed listed = still_listed is_empty (is_the slab.stuck k) listed
-
 pub give_closed : (list : ListState) (b : ℕ) (to : Standing) → is_listed (slab_with list b) ≡ true →
     on_slab (on_buffer list b (slab_freed Listed)) (b / list.chunks) (slab_closed to) ≡ on_buffer list b (slab_freed to)
 give_closed list b to listed =

@@ -1,5 +1,5 @@
 -- How the source and the slabs stay in step where one slab changes.
-use Rattle.std.proofs.Common.{◌≡◌, ◌≢◌, ℕ, zero, suc, ◌<◌, ◌≤◌, ◌+◌, ◌&&◌, ◌||◌, not, nat_lt, Bool, true, false, List, [], ◌∷◌, map, length, set, sym, ◌∙◌, ap, ap₂, refl, arith, ⊎_elim, subst}
+use Rattle.std.proofs.Common.{◌≡◌, ◌≢◌, ℕ, zero, suc, ◌<◌, ◌≤◌, ◌&&◌, ◌||◌, not, nat_lt, Bool, true, false, List, [], ◌∷◌, map, length, set, sym, ◌∙◌, ap, ap₂, refl, arith, ⊎_elim, subst}
 use Rattle.std.specs.FinSet as fin
 use Rattle.std.specs.Cmp.{nat_cmp_total, unsigned_tied}
 use Rattle.std.proofs.lemmas.Bool.{cases_eq, lt-ltb, eq-eqb, ne_eqb}
@@ -104,26 +104,6 @@ pub record WentBack (n : ℕ) (old new : List SlabState) : Type 0 where
   pub len : length new ≡ length old
   pub done : (i : ℕ) → i < n → slab_at new i ≡ slab_given_back (slab_at old i)
   pub rest : (i : ℕ) → n ≤ i → slab_at new i ≡ slab_at old i
-
-pub back_none : (old : List SlabState) → WentBack 0 old old
-back_none old = record { len = refl; done = λ i below. absurd (omega arith); rest = λ i past. refl }
-
-pub back_more : (n : ℕ) (old new : List SlabState) → n < length old → WentBack n old new →
-    WentBack (n + 1) old (set new n (slab_given_back (slab_at new n)))
-back_more n old new below went =
-    let x = slab_given_back (slab_at new n) in
-    let here : n < length new = omega (arith, below, went.len) in
-    record {
-      len = length-set new n x ∙ went.len;
-      done = λ i low.
-          ⊎_elim
-          (λ same.
-          ap (slab_at (set new n x)) same
-          ∙ (get_or-set_same new n x no_slab here ∙ (ap slab_given_back (went.rest n (omega arith)) ∙ ap (λ j. slab_given_back (slab_at old j)) (sym same))))
-          (λ apart. get_or-set_other new n i x no_slab apart ∙ went.done i (omega (arith, low, apart)))
-          (cases_eq i n);
-      rest = λ i past. get_or-set_other new n i x no_slab (λ same. omega (arith, past, same)) ∙ went.rest i (omega (arith, past));
-    }
 
 pub back_all : (n : ℕ) (old new : List SlabState) → length old ≤ n → WentBack n old new → new ≡ map slab_given_back old
 back_all n old new all went =

@@ -1,5 +1,5 @@
 -- The heap of the tests.
-use Rattle.std.specs.Prelude.{ℕ, ◌≡◌, List, Option, IfSome, length}
+use Rattle.std.specs.Prelude.{◌≡◌, List, Option, IfSome, length}
 use Rattle.kmem_buf.specs.Buffers.{CellState}
 use Rattle.kmem_buf.specs.Homes.{cell_homes}
 use Rattle.record_heap.specs.View.{HeapView, HoldState, IsHoldAt}

@@ -1,7 +1,7 @@
 -- Changes of a heap, each of one name, one tag or one object (this project's own).
 use Rattle.std.specs.Prelude.{ℕ, Bool, false, List, [], ◌∷◌, Option, Some, None, option_map, option_and_then, slice_set}
 use Rattle.std.specs.Option.{option_map_or}
-use Rattle.kmem_model.specs.Heap.{Object, HeapState, blank, object_at}
+use Rattle.kmem_model.specs.Heap.{Object, HeapState, object_at}
 use Rattle.record_heap.specs.Objects.{with_value, with_fixed, with_back, without_back, held_more, held_less}
 
 -- the value of the record at this address

@@ -1,5 +1,5 @@
 -- What a record heap keeps (this project's own).
-use Rattle.std.specs.Prelude.{ℕ, ◌≡◌, ◌≢◌, ◌+◌, ◌<◌, ◌≤◌, ◌^◌, ◌==◌, true, List, Option, Some, None, is_some, length, count_by}
+use Rattle.std.specs.Prelude.{ℕ, ◌≡◌, ◌≢◌, ◌+◌, ◌<◌, ◌≤◌, ◌^◌, ◌==◌, true, Some, is_some, length, count_by}
 use Rattle.kmem_model.specs.Heap.{Object, HeapState, object_at, kept_count, leftover_count, IsTied}
 
 -- no back reference stands twice, and an object that a name or a tag leads to has a value

@@ -39,11 +39,6 @@ bit_at-past [] q h = refl
 bit_at-past (b ∷ bits) zero h = absurd (omega arith)
 bit_at-past (b ∷ bits) (suc q) h = bit_at-past bits q (omega arith)
 
-pub bit_at-within : (bits : List Bool) (q : ℕ) → bit_at bits q ≡ true → q < length bits
-bit_at-within [] q e = absurd (cc)
-bit_at-within (b ∷ bits) zero e = omega arith
-bit_at-within (b ∷ bits) (suc q) e = omega (arith, bit_at-within bits q e)
-
 same_number : (q n : ℕ) → eq_by_cmp nat_cmp q n ≡ nat_eq q n
 same_number q n = unsigned_tied q n
 
