@@ -96,6 +96,26 @@ fn small_settles(rt: HostRuntime) -> Result<(), Fail> {
     Ok(())
 }
 
+/// Three slabs of three with a held record each: five scans put off twelve moves, and each slab keeps its record.
+#[test]
+fn everything_is_busy(rt: HostRuntime) -> Result<(), Fail> {
+    let script =
+        b"1 put a x\n1 put b x\n1 put c x\n1 put d x\n1 put e x\n1 put f x\n1 put g x\n1 put h x\n1 put i x\n\
+          1 hold 0 a\n1 hold 1 d\n1 hold 2 g\n1 del b\n1 del c\n1 del e\n1 del f\n1 del h\n1 del i\n"
+            .as_slice();
+    let replies =
+        b"new\nnew\nnew\nnew\nnew\nnew\nnew\nnew\nnew\nok\nok\nok\ndel x\ndel x\ndel x\ndel x\ndel x\ndel x\n".as_slice();
+    let counts = b"live 3\nslabs 3\nfree 6\n".as_slice();
+    let ends = b"settle yes 0 no 0 later 12 dontneed 0 dontknow 0 gone 0\n\
+          slab 0 used 1 stuck 0\nslab 1 used 1 stuck 0\nslab 2 used 1 stuck 0\n"
+        .as_slice();
+    let ran = run_in_memory(&rt, rt.alloc(), &["one", "3", "3", "0"], script)?;
+    let output = with_report(rt.alloc(), replies, b"buffers 9\n", counts, ends)?;
+    assert_eq!(rt; ran.status, Status::Fine);
+    assert_eq!(rt; ran.out.bytes(), output.as_slice());
+    Ok(())
+}
+
 /// The replies, and a report whose mover did nothing.
 fn with_report(
     alloc: Global,
