@@ -3,6 +3,7 @@ use Rattle.std.specs.Prelude.{◌≡◌, ◌≢◌, ◌⊎◌, ℕ, ◌+◌, ◌
 use Rattle.std.specs.List.{sum_by, enumerate_from}
 use Rattle.atomic_table.specs.Seated.{TableId}
 use Rattle.kmem_buf.specs.Homes.{Homes}
+use Rattle.magazine.specs.Layer.{IsFull}
 
 -- a depot: which one it is, the homes that its buffers are of, and how many places and seats it has
 pub record DepotState : Type 0 where
@@ -40,9 +41,9 @@ full_from place (numbers ∷ rest) = full_at place numbers ++ full_from (place +
 
 -- a magazine is full or empty
 abbrev pub IsFullOrEmpty : {A : Type 0} → List A → Type 0
-IsFullOrEmpty rounds = (rounds ≡ []) ⊎ (length rounds ≡ 8)
+IsFullOrEmpty rounds = (rounds ≡ []) ⊎ IsFull rounds
 
--- the turn word of a free place with the magazine of the other kind than this turn word's, or of a place that is turned
+-- a swap found another turn word than the wanted one: that of the other kind of magazine, or of a place that another seat turned
 abbrev pub IsOther : ℕ → ℕ → Type 0
 IsOther wanted found = (found ≤ 2) × (found ≢ wanted)
 

@@ -6,24 +6,22 @@ ghost use Rattle.depot.specs.Steps.{IsOf, state_of, HasGathered};
 use crate::rule::{Line, Place};
 use crate::seat::DepotSeat;
 use crate::steps::{join, split};
-use kmem_buf::{Home, Kind};
+use kmem_buf::Kind;
 
 /// Deals all seats.
 pub fn deal_all<K: Kind>(
     line: &Line<K>,
     mut dealer: Place<K>,
-    home: &Home,
     count: u32,
     mut seats: Vec<DepotSeat>,
 ) -> Vec<DepotSeat>
     requires of { IsOf dealer.table_id line.now.table_id }
     requires places { 0 < line.now.table_id.slots }
-    requires dealer { dealer.me.0 ≡ opener home.now count }
+    requires dealer { dealer.me.0 ≡ opener dealer.me.0.home count }
     requires none { seats.items ≡ [] }
     requires room { count ≤ vec_capacity seats }
-    ensures { result.items ≡ replicate count (state_of line.now.table_id (opener home.now 1)) }
+    ensures { result.items ≡ replicate count (state_of line.now.table_id (opener dealer.me.0.home 1)) }
 {
-    let _home = home;
     for _ in 0..count {
         let seat = split::<K>(line, &mut dealer);
         seats.push_reserved(DepotSeat::of::<K>(seat));

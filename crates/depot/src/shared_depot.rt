@@ -87,7 +87,7 @@ impl<K: Kind> Depot<K> {
         let dealt = Vec::with_capacity(alloc, seats as usize)?;
         let terms = Terms { home, seats };
         let (table, dealer) = lay::<K>(alloc, places, &terms)?;
-        let seats = deal_all(&table.shared, dealer, &terms.home, seats, dealt);
+        let seats = deal_all(&table.shared, dealer, seats, dealt);
         Ok((Depot { table, room }, seats))
     }
 

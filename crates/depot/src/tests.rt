@@ -1,5 +1,5 @@
 //! The worked row of a depot of two places, and two threads at one place.
-ghost use Rattle.std.specs.Prelude.{◌≡◌, ◌+◌, ◌*◌, ◌<◌, [], length, vec_len, IfOk, OnOk};
+ghost use Rattle.std.specs.Prelude.{◌≡◌, ◌+◌, ◌*◌, ◌<◌, [], length, vec_len, All, IfOk, OnOk};
 ghost use Rattle.std.specs.List.{sum_by};
 ghost use Rattle.kmem_buf.specs.Homes.{cell_homes};
 ghost use Rattle.magazine.specs.Layer.{IsFull};
@@ -210,5 +210,25 @@ fn two_swaps_of_one_place(rt: HostRuntime) -> Result<(), Fail> {
         ];
         assert!(rt; lens == [8, 0, 0] || lens == [0, 8, 0] || lens == [0, 0, 8]);
     }
+    Ok(())
+}
+
+// A depot with its seat is closed in another thread.
+fn close_elsewhere<R: Threads + Sync>(rt: &R, alloc: Global) -> Result<usize, AllocError> {
+    let home = Home::of(&Vec::new(alloc), &Vec::new(alloc));
+    let (depot, seats) = Depot::<Zeros>::create(alloc, home, 3, 1)?;
+    let (left, ()) = join(
+        rt,
+        move || -> Vec<Magazine<Zeros>>
+            requires { All (IsDepotSeat depot) seats.items × (length seats.items ≡ depot.seats) }
+        { depot.close(seats) },
+        || (),
+    );
+    Ok(left.len())
+}
+
+#[test]
+fn a_depot_goes_to_another_thread(rt: HostRuntime) -> Result<(), Fail> {
+    assert_eq!(rt; close_elsewhere(&rt, rt.alloc())?, 3);
     Ok(())
 }

@@ -7,7 +7,7 @@ use Rattle.depot.proofs.gather.deal_all.Given as goal
 abbrev pub invariant-loop : goal.invariant-loop
 invariant-loop g l = record {
   table : l.dealer.table_id ≡ l.fn.dealer.table_id;
-  dealer : l.dealer.me.0 ≡ opener l.home (l.count - l.counter);
-  seats : l.seats.items ≡ replicate l.counter (state_of l.line.table_id (opener l.home 1));
+  dealer : l.dealer.me.0 ≡ opener l.fn.dealer.me.0.home (l.count - l.counter);
+  seats : l.seats.items ≡ replicate l.counter (state_of l.line.table_id (opener l.fn.dealer.me.0.home 1));
   room : l.count ≤ vec_capacity l.seats;
 }
