@@ -1,4 +1,5 @@
--- What contracts see of a depot and of its seats, and what a swap does (a depot of full and empty magazines: Bonwick and Adams 2001; that its places are turned one at a time is this project's own).
+-- What contracts see of a depot and of its seats, and what a swap does.
+-- A depot of full and empty magazines is from Bonwick and Adams 2001; that its places are turned one at a time is this project's own.
 use Rattle.std.specs.Prelude.{◌≡◌, ◌≢◌, ◌⊎◌, ℕ, ◌+◌, ◌<◌, ◌≤◌, List, [], ◌∷◌, ◌++◌, length, All}
 use Rattle.std.specs.List.{sum_by, enumerate_from}
 use Rattle.atomic_table.specs.Seated.{TableId}
@@ -12,8 +13,9 @@ pub record DepotState : Type 0 where
   pub places : ℕ
   pub seats : ℕ
 
--- a seat: its depot and the homes of that, the full magazines that it put in and those that it took out, and what its swaps of turn words found.
--- A full magazine is a place and the numbers of the rounds there; a finding is a place and its turn word: 0 for an empty magazine, 1 for a full one, 2 for a place that another seat turned
+-- a seat: its depot and the homes of that, the full magazines that it put in and took out, and what its swaps of turn words found.
+-- A full magazine is a place and the numbers of the rounds there. A finding is a place and its turn word: 0 for an empty magazine,
+-- 1 for a full one, 2 for a place that another seat turned
 pub record DepotSeatState : Type 0 where
   pub table : TableId
   pub home : Homes
@@ -47,14 +49,19 @@ IsFullOrEmpty rounds = (rounds ≡ []) ⊎ IsFull rounds
 abbrev pub IsOther : ℕ → ℕ → Type 0
 IsOther wanted found = (found ≤ 2) × (found ≢ wanted)
 
--- a call that found a place with the turn word that it wanted, after others that it found otherwise, in order: it took out the magazine that stood there, and the one that it brought stays
+-- a call that found a place with the turn word that it wanted, after others that it found otherwise, in order: it took out the
+-- magazine that stood there, and the one that it brought stays
 pub record HasSwapped (places wanted : ℕ) (out brought : List ℕ) (old new : DepotSeatState) : Type 0 where
   pub place : ℕ
   pub within : place < places
   pub found : List ℕ
   pub before : length found ≡ place
   pub others : All (IsOther wanted) found
-  pub seat : new ≡ record old { put = old.put ++ full_at place brought; taken = old.taken ++ full_at place out; tries = old.tries ++ enumerate_from 0 (found ++ wanted ∷ []) }
+  pub seat : new ≡ record old {
+    put = old.put ++ full_at place brought;
+    taken = old.taken ++ full_at place out;
+    tries = old.tries ++ enumerate_from 0 (found ++ wanted ∷ []);
+  }
 
 -- a call that tried each place once, in order, and found none with the turn word that it wanted
 pub record WasRefused (places wanted : ℕ) (old new : DepotSeatState) : Type 0 where
@@ -69,3 +76,10 @@ put_by seats = sum_by (λ s. length s.put) seats
 
 abbrev pub taken_by : List DepotSeatState → ℕ
 taken_by seats = sum_by (λ s. length s.taken) seats
+
+-- the same where each full magazine has a weight
+abbrev pub put_weight_by : (ℕ × List ℕ → ℕ) → List DepotSeatState → ℕ
+put_weight_by weight seats = sum_by (λ s. sum_by weight s.put) seats
+
+abbrev pub taken_weight_by : (ℕ × List ℕ → ℕ) → List DepotSeatState → ℕ
+taken_weight_by weight seats = sum_by (λ s. sum_by weight s.taken) seats

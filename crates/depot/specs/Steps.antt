@@ -59,7 +59,9 @@ module _ {X : Type 0} where
   pub record Turned (constructed : X → Type 0) (st : Step (List (BufState X))) (me : Sat X) (found : ℕ) (me' : Sat X) : Type 0 where
     pub most : found ≤ 2
     pub turned : found ≡ 2 → me' ≡ (tried st.word 2 me.0, me.1)
-    pub taken : found < 2 → (magazine : List (BufState X)) × (me' ≡ (took st.word found (numbers_of magazine) me.0, (st.word, magazine) ∷ me.1)) × (length magazine ≡ 8 * found) × AreReady constructed me.0.home magazine
+    pub taken : found < 2 → (magazine : List (BufState X))
+        × (me' ≡ (took st.word found (numbers_of magazine) me.0, (st.word, magazine) ∷ me.1))
+        × (length magazine ≡ 8 * found) × AreReady constructed me.0.home magazine
 
   abbrev pub Left : Step (List (BufState X)) → Sat X → ℕ → Sat X → Type 0
   Left st me stored me' = me' ≡ (kept_back me.0, rest me.1)

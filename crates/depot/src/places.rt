@@ -24,7 +24,8 @@ fn try_place<K: Kind>(
     requires fit { IsFit K.constructed seat.old.me.0.home (1 - wanted) magazine }
     ensures same { IsSameSeat seat.old seat.new }
     ensures tried { MatchResult result
-        (λ out. IsFit K.constructed seat.old.me.0.home wanted out × HasTraded place wanted (numbers_of out) (numbers_of magazine) seat.old.me seat.new.me)
+        (λ out. IsFit K.constructed seat.old.me.0.home wanted out
+        × HasTraded place wanted (numbers_of out) (numbers_of magazine) seat.old.me seat.new.me)
         (λ back. (back ≡ magazine) × HasTried place wanted seat.old.me seat.new.me) }
 {
     let found = turn(line, seat, place);
@@ -56,8 +57,11 @@ pub fn try_all<K: Kind>(
     ensures same { IsSameSeat seat.old seat.new }
     ensures rests { IsResting seat.new.me }
     ensures tried { MatchResult result
-        (λ out. IsFit K.constructed seat.old.me.0.home wanted out × HasSwapped places wanted (numbers_of out) (numbers_of magazine) (state_of seat.old.table_id seat.old.me.0) (state_of seat.new.table_id seat.new.me.0))
-        (λ back. (back ≡ magazine) × WasRefused places wanted (state_of seat.old.table_id seat.old.me.0) (state_of seat.new.table_id seat.new.me.0)) }
+        (λ out. IsFit K.constructed seat.old.me.0.home wanted out
+        × HasSwapped places wanted (numbers_of out) (numbers_of magazine)
+        (state_of seat.old.table_id seat.old.me.0) (state_of seat.new.table_id seat.new.me.0))
+        (λ back. (back ≡ magazine)
+        × WasRefused places wanted (state_of seat.old.table_id seat.old.me.0) (state_of seat.new.table_id seat.new.me.0)) }
 {
     let mut offered = magazine;
     for place in 0..places {

@@ -4,7 +4,8 @@ ghost use Rattle.std.specs.List.{sum_by};
 ghost use Rattle.magazine.specs.Layer.{IsFull};
 ghost use Rattle.magazine.specs.Ready.{AreReady};
 ghost use Rattle.kmem_buf.specs.Answers.{numbers_of};
-ghost use Rattle.depot.specs.Depot.{fresh_depot_seat, full_from, IsDepotSeat, IsFullOrEmpty, HasSwapped, WasRefused, put_by, taken_by};
+ghost use Rattle.depot.specs.Depot.{fresh_depot_seat, full_from, IsDepotSeat, IsFullOrEmpty, HasSwapped, WasRefused};
+ghost use Rattle.depot.specs.Depot.{put_by, taken_by, put_weight_by, taken_weight_by};
 ghost use Rattle.depot.specs.Rule.{opener};
 ghost use Rattle.depot.specs.Steps.{IsFit};
 
@@ -31,14 +32,14 @@ pub struct Depot<K: Kind> {
 }
 
 impl<K: Kind> Model for Depot<K> {
-    ghost use Rattle.std.specs.Prelude.{◌≡◌, ◌<◌};
     ghost use Rattle.depot.specs.Depot.{DepotState};
+    ghost use Rattle.depot.specs.Rule.{depot_state, IsDepot};
 
     ghost Value = { DepotState };
 
-    ghost view = { λ d. record { table = d.table.shared.table_id; home = d.table.shared.key.home; places = d.table.shared.table_id.slots; seats = d.table.shared.key.seats } };
+    ghost view = { λ d. depot_state d.table.shared.table_id d.table.shared.key };
 
-    ghost invariant = { λ d. (d.table.shared.table_id.words ≡ d.table.shared.table_id.slots) × (0 < d.table.shared.table_id.slots) × (0 < d.table.shared.key.seats) × (d.room ≡ d.table.shared.table_id.slots) };
+    ghost invariant = { λ d. IsDepot d.table.shared.table_id d.table.shared.key d.room };
 }
 
 // Lays out the places, with an empty magazine each, and gives the seat that deals.
@@ -47,7 +48,8 @@ fn lay<K: Kind>(
     places: u32,
     terms: &Terms,
 ) -> Result<(Whole<K>, Place<K>), AllocError>
-    ensures table { IfOk result (λ r. (r.0.shared.table_id.words ≡ places) × (r.0.shared.table_id.slots ≡ places) × (r.0.shared.key ≡ terms.now)) }
+    ensures counts { IfOk result (λ r. (r.0.shared.table_id.words ≡ places) × (r.0.shared.table_id.slots ≡ places)) }
+    ensures key { IfOk result (λ r. r.0.shared.key ≡ terms.now) }
     ensures seat { IfOk result (λ r. (r.1.table_id ≡ r.0.shared.table_id) × (r.1.me ≡ (opener terms.now.home terms.now.seats, []))) }
 {
     let words = vec![in alloc; EMPTY; places as usize]?;
@@ -137,7 +139,8 @@ impl<K: Kind> Depot<K> {
         requires wanted { wanted < 2 }
         requires fit { IsFit K.constructed self.now.home (1 - wanted) magazine }
         ensures { MatchResult result
-            (λ out. IsFit K.constructed self.now.home wanted out × HasSwapped self.now.places wanted (numbers_of out) (numbers_of magazine) seat.old seat.new)
+            (λ out. IsFit K.constructed self.now.home wanted out
+            × HasSwapped self.now.places wanted (numbers_of out) (numbers_of magazine) seat.old seat.new)
             (λ back. (back ≡ magazine) × WasRefused self.now.places wanted seat.old seat.new) }
     {
         let places = self.table.slot_count();
@@ -155,7 +158,9 @@ impl<K: Kind> Depot<K> {
         ensures ready { All (AreReady K.constructed self.home) result.items }
         ensures whole { All IsFullOrEmpty result.items }
         ensures rounds { sum_by length result.items + 8 * taken_by seats.items ≡ 8 * put_by seats.items }
-        ensures stands { (weight : ℕ × List ℕ → ℕ) → sum_by (λ s. sum_by weight s.put) seats.items ≡ sum_by (λ s. sum_by weight s.taken) seats.items + sum_by weight (full_from 0 (map numbers_of result.items)) }
+        ensures stands { (weight : ℕ × List ℕ → ℕ) →
+            put_weight_by weight seats.items
+            ≡ taken_weight_by weight seats.items + sum_by weight (full_from 0 (map numbers_of result.items)) }
     {
         let Depot { table, room } = self;
         let seat = gather_all::<K>(&table.shared, seats);

@@ -3,7 +3,8 @@ ghost use Rattle.std.specs.Prelude.{◌≡◌, ◌*◌, ◌<◌, ◌≤◌, List
 ghost use Rattle.kmem_buf.specs.Buffers.{BufState};
 ghost use Rattle.magazine.specs.Ready.{AreReady};
 ghost use Rattle.kmem_buf.specs.Answers.{numbers_of};
-ghost use Rattle.depot.specs.Steps.{IsOf, IsSameSeat, IsResting, IsUnused, IsTurning, tried, took, kept_back, traded, was_of, dealt_one, newcomer, joined};
+ghost use Rattle.depot.specs.Steps.{IsOf, IsSameSeat, IsResting, IsUnused, IsTurning};
+ghost use Rattle.depot.specs.Steps.{tried, took, kept_back, traded, was_of, dealt_one, newcomer, joined};
 
 use crate::rule::{Deal, Gather, Leave, Line, Place, Settle, Turn};
 use kmem_buf::Kind;
@@ -26,7 +27,9 @@ pub fn turn<K: Kind>(line: &Line<K>, seat: &mut Place<K>, place: usize) -> u64
     ensures same { IsSameSeat seat.old seat.new }
     ensures most { result ≤ 2 }
     ensures turned { result ≡ 2 → seat.new.me ≡ (tried place 2 seat.old.me.0, []) }
-    ensures taken { result < 2 → (found : List (BufState K.Object)) × (seat.new.me ≡ (took place result (numbers_of found) seat.old.me.0, (place, found) ∷ [])) × (length found ≡ 8 * result) × AreReady K.constructed seat.old.me.0.home found }
+    ensures taken { result < 2 → (found : List (BufState K.Object))
+        × (seat.new.me ≡ (took place result (numbers_of found) seat.old.me.0, (place, found) ∷ []))
+        × (length found ≡ 8 * result) × AreReady K.constructed seat.old.me.0.home found }
 {
     line.swap::<Turn<K>>(seat, place, TURNED)
 }
@@ -51,7 +54,8 @@ pub fn exchange<K: Kind>(
 pub fn leave<K: Kind>(line: &Line<K>, seat: &mut Place<K>, place: usize, word: u64)
     requires of { IsOf seat.old.table_id line.now.table_id }
     requires place { place < line.now.table_id.slots }
-    requires turns { (found : List (BufState K.Object)) × IsTurning K.constructed place word found seat.old.me × (numbers_of found ≡ was_of seat.old.me.0) }
+    requires turns { (found : List (BufState K.Object))
+        × IsTurning K.constructed place word found seat.old.me × (numbers_of found ≡ was_of seat.old.me.0) }
     ensures same { IsSameSeat seat.old seat.new }
     ensures free { seat.new.me ≡ (kept_back seat.old.me.0, []) }
 {
@@ -64,7 +68,8 @@ pub fn settle<K: Kind>(line: &Line<K>, seat: &mut Place<K>, place: usize, word: 
     requires place { place < line.now.table_id.slots }
     requires turns { (brought : List (BufState K.Object)) × IsTurning K.constructed place word brought seat.old.me }
     ensures same { IsSameSeat seat.old seat.new }
-    ensures free { (brought : List (BufState K.Object)) → seat.old.me.1 ≡ (place, brought) ∷ [] → seat.new.me ≡ (traded place (was_of seat.old.me.0) (numbers_of brought) seat.old.me.0, []) }
+    ensures free { (brought : List (BufState K.Object)) → seat.old.me.1 ≡ (place, brought) ∷ []
+        → seat.new.me ≡ (traded place (was_of seat.old.me.0) (numbers_of brought) seat.old.me.0, []) }
 {
     line.store::<Settle>(seat, place, word);
 }

@@ -144,18 +144,22 @@ fn swap_both<R: Threads + Sync>(
 ) -> (Swapped, Swapped)
     requires a { IsDepotSeat depot.now a.0 × (a.1 ≡ []) × (a.0.taken ≡ []) }
     requires b { IsDepotSeat depot.now b.0 × (b.1 ≡ []) × (b.0.taken ≡ []) }
-    ensures a { IsDepotSeat depot.now result.0.seat × (result.0.seat.put ≡ a.0.put) × (length result.0.magazine ≡ 8 * length result.0.seat.taken) }
-    ensures b { IsDepotSeat depot.now result.1.seat × (result.1.seat.put ≡ b.0.put) × (length result.1.magazine ≡ 8 * length result.1.seat.taken) }
+    ensures a { IsDepotSeat depot.now result.0.seat × (result.0.seat.put ≡ a.0.put)
+        × (length result.0.magazine ≡ 8 * length result.0.seat.taken) }
+    ensures b { IsDepotSeat depot.now result.1.seat × (result.1.seat.put ≡ b.0.put)
+        × (length result.1.magazine ≡ 8 * length result.1.seat.taken) }
 {
     join(
         rt,
         move || -> Swapped
             requires { IsDepotSeat depot.now a.0 × (a.1 ≡ []) × (a.0.taken ≡ []) }
-            ensures { IsDepotSeat depot.entry.now result.seat × (result.seat.put ≡ a.0.put) × (length result.magazine ≡ 8 * length result.seat.taken) }
+            ensures { IsDepotSeat depot.entry.now result.seat × (result.seat.put ≡ a.0.put)
+                × (length result.magazine ≡ 8 * length result.seat.taken) }
         { swap_once(depot, a.0, a.1) },
         move || -> Swapped
             requires { IsDepotSeat depot.now b.0 × (b.1 ≡ []) × (b.0.taken ≡ []) }
-            ensures { IsDepotSeat depot.entry.now result.seat × (result.seat.put ≡ b.0.put) × (length result.magazine ≡ 8 * length result.seat.taken) }
+            ensures { IsDepotSeat depot.entry.now result.seat × (result.seat.put ≡ b.0.put)
+                × (length result.magazine ≡ 8 * length result.seat.taken) }
         { swap_once(depot, b.0, b.1) },
     )
 }

@@ -1,5 +1,6 @@
 -- What a word says, and what contracts see of the words, of their pen and of a seat.
--- That a client marks the buffers it knows by the two low bits of a word is from the theory statement of the kernel's kmem.c; the rest is this project's own.
+-- That a client tells a known object by the two low bits of a word is from the theory statement of the kernel's kmem.c; the rest
+-- is this project's own.
 use Rattle.std.specs.Prelude.{◌≡◌, ◌⊎◌, ◌==◌, ℕ, ◌+◌, ◌*◌, ◌%◌, Bool, List, Option, Some, None, slice_set}
 use Rattle.atomic_table.specs.Seated.{TableId}
 
