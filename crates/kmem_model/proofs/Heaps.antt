@@ -1,12 +1,13 @@
 -- What lies where in a heap that stands for a record map.
-use Rattle.std.proofs.Common.{◌≡◌, ◌≢◌, ℕ, zero, suc, ◌+◌, ◌/◌, ◌%◌, ◌<◌, ◌≤◌, ◌==◌, ◌&&◌, Bool, true, false, cond, List, [], ◌∷◌, length, get_or, count_by, option_map, option_and_then, Option, Some, None, is_some, is_none, ⊎_elim, sym, ◌∙◌, ap, ap₂, refl, arith}
+use Rattle.std.proofs.Common.{◌≡◌, ◌≢◌, ℕ, zero, suc, ◌+◌, ◌*◌, ◌/◌, ◌%◌, ◌<◌, ◌≤◌, ◌==◌, ◌&&◌, Bool, true, false, cond, List, [], ◌∷◌, length, get_or, count_by, option_map, option_and_then, Option, Some, None, is_some, is_none, ⊎_elim, sym, ◌∙◌, ap, ap₂, refl, subst, arith}
 use Rattle.std.specs.Bool.{then_some}
 use Rattle.std.specs.Option.{option_or}
-use Rattle.std.proofs.lemmas.Bool.{cases_lt, cases_Bool, both_ways, and_parts, and_from, eqb-true, eq-eqb}
-use Rattle.std.proofs.lemmas.List.Sums.{count_by-le-length, AllPass-from_list_all}
-use Rattle.std.proofs.lemmas.Nat.{div_below, mod_below}
+use Rattle.std.proofs.lemmas.Bool.{cases_lt, cases_Bool, both_ways, and_parts, and_from, cases_eq, ne_eqb, eqb-true, eq-eqb}
+use Rattle.std.proofs.lemmas.List.Sums.{count_by-le-length, AllPass-from_list_all, list_all-from_AllPass}
+use Rattle.std.proofs.lemmas.Nat.{div_below, mod_below, div-mul-add, mod-mul-add, mul-add-lt}
+use Rattle.std.proofs.lemmas.List.{get_or_default}
 use Rattle.kmem_model.proofs.CacheLists.{count-cons, count_all, get_or-map_default}
-use Rattle.kmem_model.proofs.CacheSearch.{fails_from_none, least_from_some}
+use Rattle.kmem_model.proofs.CacheSearch.{fails_from_none, least_from_some, none_from_fails, is_none_says}
 use Rattle.kmem_model.proofs.RecordsValid.{is_the_some, live_within}
 use Rattle.kmem_model.specs.CacheState.{CacheState, SlabState, no_slab, slab_at, used, is_out}
 use Rattle.kmem_model.specs.CacheOrder.{least_below, is_the}
@@ -14,7 +15,7 @@ use Rattle.kmem_model.specs.CacheEnter.{is_full}
 use Rattle.kmem_model.specs.Records.{RecordMap, is_live, id_of, held_at, live_count, IsValid}
 use Rattle.kmem_model.specs.Heap.{Object, HeapState, object_at, address_of, hold_at, record_of, has_record, is_leftover, address_in, IsTiedObject, StandsFor}
 use Rattle.kmem_model.specs.SettleWhole.{IsWhole, IsWholeSlab}
-use Rattle.kmem_model.specs.One.{OneState, buffers_of, id_at, least_leftover}
+use Rattle.kmem_model.specs.One.{OneState, buffers_of, id_at, least_leftover, has_no_room}
 use Rattle.kmem_model.specs.OneStands.{OneStands, least_left_in}
 
 -- Counts and searches
@@ -199,3 +200,52 @@ leftover_room s h b stands e =
         by_value : (v : Option (List ℕ)) → is_none v ≡ true → is_some v ≡ false
         by_value None e = refl
         by_value (Some v) e = absurd (both_ways false refl e)
+
+-- a cache is full where every buffer is out
+pub full_from_out : (cache : CacheState) → IsWhole cache → ((b : ℕ) → b < buffers_of cache → is_out cache b ≡ true) → is_full cache ≡ true
+full_from_out cache whole out =
+    list_all-from_AllPass (λ slab. used slab == length slab.out) cache.slabs
+    (λ i d below. subst (λ slab. (used slab == length slab.out) ≡ true) (get_or_default cache.slabs i no_slab d below) (full_slab i below))
+  where
+    full_slab : (i : ℕ) → i < length cache.slabs → (used (slab_at cache.slabs i) == length (slab_at cache.slabs i).out) ≡ true
+    full_slab i below =
+        let size : length (slab_at cache.slabs i).out ≡ cache.chunks = (whole.slabs i no_slab below).size in
+        eq-eqb (used (slab_at cache.slabs i)) (length (slab_at cache.slabs i).out)
+        (count_all (λ x. x) (slab_at cache.slabs i).out false (λ k within. on_slab k (subst (λ n. k < n) size within)))
+      where
+        on_slab : (k : ℕ) → k < cache.chunks → get_or (slab_at cache.slabs i).out k false ≡ true
+        on_slab k within =
+            let b : ℕ = i * cache.chunks + k in
+            sym (ap₂ (λ r n. get_or (slab_at cache.slabs r).out n false) (div-mul-add i cache.chunks k within) (mod-mul-add i cache.chunks k within))
+            ∙ out b (omega (arith, whole.asked, mul-add-lt i cache.chunks k (length cache.slabs) below within))
+
+-- there is no room exactly where as many records live as there are buffers
+pub room_is : (s : OneState) (h : HeapState) → OneStands s h → has_no_room s ≡ (live_count s.map == buffers_of s.cache)
+room_is s h stands = ⊎_elim (λ same. none_left same ∙ sym (eq-eqb (live_count s.map) (buffers_of s.cache) same)) (λ other. some_left other ∙ sym (ne_eqb (live_count s.map) (buffers_of s.cache) other)) (cases_eq (live_count s.map) (buffers_of s.cache))
+  where
+    none_left : live_count s.map ≡ buffers_of s.cache → has_no_room s ≡ true
+    none_left same = and_from (is_full s.cache) (is_none (least_leftover s)) (full_from_out s.cache stands.whole (λ b below. sym (stands.places b) ∙ there (object_at h b) (kept b below))) (ap is_none left)
+      where
+        kept : (b : ℕ) → b < buffers_of s.cache → has_record (object_at h b) ≡ true
+        kept b below = ⊎_elim (λ yes. yes) (λ no. absurd (omega (arith, same, room_left s h b stands below no))) (cases_Bool (has_record (object_at h b)))
+
+        there : (x : Option Object) → has_record x ≡ true → is_some x ≡ true
+        there (Some o) e = refl
+        there None e = e
+
+        not_left : (x : Option Object) → has_record x ≡ true → is_leftover x ≡ false
+        not_left None e = refl
+        not_left (Some o) e = by_value o.value e
+          where
+            by_value : (v : Option (List ℕ)) → is_some v ≡ true → is_none v ≡ false
+            by_value (Some v) e = refl
+            by_value None e = absurd (both_ways false refl e)
+
+        left : least_leftover s ≡ None
+        left = none_from_fails (buffers_of s.cache) (λ b. is_out s.cache b && is_none (id_at s.map s.addresses b)) (λ b below. sym (leftover_is s h b stands) ∙ not_left (object_at h b) (kept b below))
+
+    some_left : live_count s.map ≢ buffers_of s.cache → has_no_room s ≡ false
+    some_left other = ⊎_elim (λ yes. absurd (full yes)) (λ no. no) (cases_Bool (has_no_room s))
+      where
+        full : has_no_room s ≡ true → ⊥
+        full none = let parts = and_parts (is_full s.cache) (is_none (least_leftover s)) none in other (no_room s h stands parts.0 (is_none_says (least_leftover s) parts.1))

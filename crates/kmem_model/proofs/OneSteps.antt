@@ -1,5 +1,5 @@
 -- What a heap and a cache do at a command is the step of `one`.
-use Rattle.std.proofs.Common.{◌≡◌, ℕ, ◌<◌, ◌≤◌, ◌==◌, ◌&&◌, ◌||◌, not, ◌++◌, ◌*◌, ◌/◌, ◌%◌, Bool, true, false, List, [], ◌∷◌, length, replicate, get_or, set, option_map, Option, Some, None, is_some, is_none, ◌⊎◌, inl, inr, ⊎_elim, sym, ◌∙◌, ap, refl, subst, arith}
+use Rattle.std.proofs.Common.{◌≡◌, ◌↔◌, ℕ, ◌<◌, ◌≤◌, ◌==◌, ◌&&◌, ◌||◌, not, ◌++◌, ◌*◌, ◌/◌, ◌%◌, Bool, true, false, List, [], ◌∷◌, length, replicate, get_or, set, option_map, Option, Some, None, is_some, is_none, ◌⊎◌, inl, inr, ⊎_elim, sym, ◌∙◌, ap, refl, subst, arith}
 use Rattle.std.specs.Option.{option_map_or}
 use Rattle.std.proofs.lemmas.Bool.{cases_lt, cases_eq, both_ways, cond-true, cond-false, cond_both, eq-eqb, ne_eqb, and_left, and_right, and_from}
 use Rattle.std.proofs.lemmas.List.{get_or-set_same, get_or-set_other, get_or-replicate, get_or_past, length-map, length-set, length-replicate}
@@ -11,12 +11,12 @@ use Rattle.kmem_text.specs.declared.command.Reply.TheVariants.{New, Full, Idle}
 use Rattle.kmem_model.proofs.CacheLists.{get_or-map_default, get_or-replicate_none}
 use Rattle.kmem_model.proofs.CacheSearch.{least_from_some}
 use Rattle.kmem_model.proofs.PlacesKept.{then_some_says}
-use Rattle.kmem_model.proofs.Legal.{entered_buffers_alloc, entered_buffers_free, placed_is}
+use Rattle.kmem_model.proofs.Legal.{entered_buffers_alloc, entered_buffers_free, placed_is, full_exactly}
 use Rattle.kmem_model.proofs.StepValid.{step_keeps, start_valid}
 use Rattle.kmem_model.proofs.StepTags.{looks_leave, tags_stay}
 use Rattle.kmem_model.proofs.RecordsValid.{is_the_some, some_within}
 use Rattle.kmem_model.proofs.SettleWhole.{enter_whole, opening_whole, opening_calm}
-use Rattle.kmem_model.proofs.Heaps.{leftover_same, room_left, leftover_room, no_room}
+use Rattle.kmem_model.proofs.Heaps.{leftover_same, room_is}
 use Rattle.kmem_model.proofs.Outs.{out_after_alloc, out_after_free}
 use Rattle.kmem_model.specs.CacheState.{CacheState, no_slab, slab_in_source, is_out, is_out_on, has_pending, opening}
 use Rattle.kmem_model.specs.CacheOrder.{is_the, wanted}
@@ -26,8 +26,8 @@ use Rattle.kmem_model.specs.declared.cache_entry.CacheEntry.TheVariants as entry
 use Rattle.kmem_model.specs.Records.{RecordMap, id_of, held_at, is_live, live_count, tag_place, no_records, IsValid}
 use Rattle.kmem_model.specs.RecordStep.{put_step, read_step, write_step, drop_step, step, only_looks, leaves_tags, IsInRange}
 use Rattle.kmem_model.specs.Heap.{Object, HeapState, StandsFor, hold_at, object_at, address_of, address_in, places_of, has_record, is_leftover}
-use Rattle.kmem_model.specs.History.{is_full_due, is_put_of_absent}
-use Rattle.kmem_model.specs.One.{OneState, OneStep, buffers_of, entered_by, least_leftover, address_for, cache_with, cache_without, placed_step, one_step, one_start, one_workers, one_limit}
+use Rattle.kmem_model.specs.History.{is_put_of_absent, is_full_due}
+use Rattle.kmem_model.specs.One.{OneState, OneStep, buffers_of, entered_by, least_leftover, address_for, cache_with, cache_without, placed_step, has_no_room, is_refused, one_step, one_start, one_workers, one_limit}
 use Rattle.kmem_model.specs.OneStands.{OneStands, OneEnds, least_left_in, leaves_objects, IsOnTag}
 
 -- Reads
@@ -62,19 +62,19 @@ absent_is s h name stands e = none_from (id_of s.map name) (present_is s h name 
 
 -- Which branch a step takes
 
-taken : (s : OneState) (worker : ℕ) (command : Command) → is_full_due (buffers_of s.cache) s.map command ≡ false → one_step s worker command ≡ placed_step s command (step s.map worker command)
-taken s worker command e = cond-false (is_full_due (buffers_of s.cache) s.map command) _ _ e
+taken : (s : OneState) (worker : ℕ) (command : Command) → is_refused s command ≡ false → one_step s worker command ≡ placed_step s command (step s.map worker command)
+taken s worker command e = cond-false (is_refused s command) _ _ e
 
-refused : (s : OneState) (worker : ℕ) (command : Command) → is_full_due (buffers_of s.cache) s.map command ≡ true → one_step s worker command ≡ record { reply = Full; state = s }
-refused s worker command e = cond-true (is_full_due (buffers_of s.cache) s.map command) _ _ e
+refused : (s : OneState) (worker : ℕ) (command : Command) → is_refused s command ≡ true → one_step s worker command ≡ record { reply = Full; state = s }
+refused s worker command e = cond-true (is_refused s command) _ _ e
 
 -- no put of an absent name
-not_due : (s : OneState) (command : Command) → is_put_of_absent s.map command ≡ false → is_full_due (buffers_of s.cache) s.map command ≡ false
-not_due s command e = and_left (is_put_of_absent s.map command) (live_count s.map == buffers_of s.cache) e
+not_due : (s : OneState) (command : Command) → is_put_of_absent s.map command ≡ false → is_refused s command ≡ false
+not_due s command e = and_left (is_put_of_absent s.map command) (has_no_room s) e
 
--- fewer records than buffers
-room_not_due : (s : OneState) (command : Command) → live_count s.map < buffers_of s.cache → is_full_due (buffers_of s.cache) s.map command ≡ false
-room_not_due s command few = and_right (is_put_of_absent s.map command) (live_count s.map == buffers_of s.cache) (ne_eqb (live_count s.map) (buffers_of s.cache) (λ same. omega (arith, few, same)))
+-- room, also for a put of an absent name
+room_not_due : (s : OneState) (command : Command) → has_no_room s ≡ false → is_refused s command ≡ false
+room_not_due s command room = and_right (is_put_of_absent s.map command) (has_no_room s) room
 
 -- A command that leaves every object where it is
 
@@ -137,7 +137,7 @@ replaced_ends s h new worker name value stands range there after places =
 -- A put of an absent name
 
 -- with room it is placed, and replies as a new one
-placed_new : (s : OneState) (worker : ℕ) (name : NameId) (value : List ℕ) → id_of s.map name.0 ≡ None → live_count s.map < buffers_of s.cache → one_step s worker (Put name value) ≡ record { reply = New; state = record { map = (step s.map worker (Put name value)).map; cache = cache_with s; addresses = s.addresses ++ address_for s ∷ [] } }
+placed_new : (s : OneState) (worker : ℕ) (name : NameId) (value : List ℕ) → id_of s.map name.0 ≡ None → has_no_room s ≡ false → one_step s worker (Put name value) ≡ record { reply = New; state = record { map = (step s.map worker (Put name value)).map; cache = cache_with s; addresses = s.addresses ++ address_for s ∷ [] } }
 placed_new s worker name value absent few =
     taken s worker (Put name value) (room_not_due s (Put name value) few)
     ∙ (cond-false (is_some (id_of s.map name.0)) _ _ (ap is_some absent)
@@ -163,7 +163,7 @@ made_ends s h new t worker name value b stands range absent room e below empty a
     let may : is_the (wanted s.cache) b ≡ true = (then_some_says (may_take s.cache b) (with_out s.cache b) t e).0 in
     let at : address_for s ≡ b = address_allocated s b room may in
     let cache : cache_with s ≡ t = cache_allocated s b t room at e in
-    let is = placed_new s worker name value (absent_is s h name.0 stands absent) (room_left s h b stands below (ap has_record empty)) in
+    let is = placed_new s worker name value (absent_is s h name.0 stands absent) (and_left (is_full s.cache) (is_none (least_leftover s)) room) in
     subst (λ made. OneEnds made New t new) (sym (is ∙ ap (λ n. record { reply = New; state = record { map = (step s.map worker (Put name value)).map; cache = cache_with s; addresses = s.addresses ++ n ∷ [] } }) at ∙ ap (λ c. record { reply = New; state = record { map = (step s.map worker (Put name value)).map; cache = c; addresses = s.addresses ++ b ∷ [] } }) cache))
     (record {
       replies = refl;
@@ -193,7 +193,7 @@ reused_ends s h new worker name value b stands range absent full left after plac
     let is_left : least_leftover s ≡ Some b = sym (leftover_same s h stands) ∙ left in
     let at : address_for s ≡ b = address_left s b full is_left in
     let cache : cache_with s ≡ s.cache = cond-true (is_full s.cache) s.cache _ full in
-    let is = placed_new s worker name value (absent_is s h name.0 stands absent) (leftover_room s h b stands is_left) in
+    let is = placed_new s worker name value (absent_is s h name.0 stands absent) (and_right (is_full s.cache) (is_none (least_leftover s)) (ap is_none is_left)) in
     subst (λ made. OneEnds made New s.cache new) (sym (is ∙ ap (λ n. record { reply = New; state = record { map = (step s.map worker (Put name value)).map; cache = cache_with s; addresses = s.addresses ++ n ∷ [] } }) at ∙ ap (λ c. record { reply = New; state = record { map = (step s.map worker (Put name value)).map; cache = c; addresses = s.addresses ++ b ∷ [] } }) cache))
     (record {
       replies = refl;
@@ -203,7 +203,8 @@ reused_ends s h new worker name value b stands range absent full left after plac
 
 pub refused_ends : (s : OneState) (h : HeapState) (worker : ℕ) (name : NameId) (value : List ℕ) → OneStands s h → address_of h name.0 ≡ None → is_full s.cache ≡ true → least_left_in h ≡ None → OneEnds (one_step s worker (Put name value)) Full s.cache h
 refused_ends s h worker name value stands absent full none =
-    let due : is_full_due (buffers_of s.cache) s.map (Put name value) ≡ true = and_from (is_none (id_of s.map name.0)) (live_count s.map == buffers_of s.cache) (ap is_none (absent_is s h name.0 stands absent)) (eq-eqb (live_count s.map) (buffers_of s.cache) (no_room s h stands full (sym (leftover_same s h stands) ∙ none))) in
+    let no_room : has_no_room s ≡ true = and_from (is_full s.cache) (is_none (least_leftover s)) full (ap is_none (sym (leftover_same s h stands) ∙ none)) in
+    let due : is_refused s (Put name value) ≡ true = and_from (is_none (id_of s.map name.0)) (has_no_room s) (ap is_none (absent_is s h name.0 stands absent)) no_room in
     subst (λ made. OneEnds made Full s.cache h) (sym (refused s worker (Put name value) due))
     (record { replies = refl; leaves = refl; stands = stands })
 
@@ -403,6 +404,10 @@ maps_are s worker command leaves = ap (λ (made : OneStep). made.state.map) (pla
 
 pub one_tags_stay : (s : OneState) (worker : ℕ) (command : Command) → leaves_tags command ≡ true → (one_step s worker command).state.map.tags ≡ s.map.tags
 one_tags_stay s worker command leaves =
-    cond_both (is_full_due (buffers_of s.cache) s.map command) _ _ (λ (made : OneStep). made.state.map.tags ≡ s.map.tags)
+    cond_both (is_refused s command) _ _ (λ (made : OneStep). made.state.map.tags ≡ s.map.tags)
     (λ due. refl)
     (λ free. ap (λ (m : RecordMap). m.tags) (placed_is s command (step s.map worker command)).map ∙ tags_stay s.map worker command leaves)
+
+-- `full` is replied exactly where as many records live as there are buffers
+pub full_ends : (s : OneState) (h : HeapState) (worker : ℕ) (command : Command) → OneStands s h → ((one_step s worker command).reply ≡ Full) ↔ (is_full_due (buffers_of s.cache) s.map command ≡ true)
+full_ends s h worker command stands = full_exactly s worker command (ap (λ room. is_put_of_absent s.map command && room) (room_is s h stands))

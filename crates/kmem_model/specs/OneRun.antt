@@ -15,7 +15,8 @@ use Rattle.kmem_model.specs.Says.{addresses_after}
 use Rattle.kmem_model.specs.Settle.{Stage, EndedMove, Course}
 use Rattle.kmem_model.specs.SettleMeasure.{settled}
 use Rattle.kmem_model.specs.Report.{MoveCounts, Report, report_text}
-use Rattle.kmem_model.specs.History.{Entry}
+use Rattle.kmem_model.specs.declared.record_entry.RecordEntry.{RecordEntry}
+use Rattle.kmem_model.specs.History.{commands_of}
 use Rattle.kmem_model.specs.One.{OneState, buffers_of, id_at, least_leftover, entered_by, one_step, one_start}
 
 -- A settle
@@ -83,11 +84,14 @@ abbrev pub lines_run : Option ℕ → ℕ → OneRun → List Line → OneRun
 lines_run every number run [] = run
 lines_run every number run (line ∷ lines) = lines_run every (number + 1) (line_run every number run line) lines
 
--- the history of these commands and their replies: a command's number in it counts its worker's commands, from 1
-abbrev pub history_of : Option ℕ → ℕ → OneRun → List Line → List Line → List Entry
+-- the history of these commands and their replies, behind those of earlier lines: each worker's commands are numbered from 1
+abbrev pub history_of : Option ℕ → ℕ → OneRun → List Line → List Line → List (ℕ × RecordEntry)
 history_of every number run before [] = []
 history_of every number run before (line ∷ lines) =
-    record { worker = line.worker; number = count_by (λ earlier. earlier.worker == line.worker) before + 1; command = line.command; reply = (one_step run.state line.worker line.command).reply }
+    (
+      line.worker - 1,
+      record { number = length (commands_of line.worker before) + 1; command = line.command; reply = (one_step run.state line.worker line.command).reply },
+    )
     ∷ history_of every (number + 1) (line_run every number run line) (before ++ line ∷ []) lines
 
 -- The end

@@ -1,6 +1,6 @@
 //! Laws of the definitions. Each is the contract of a function with an empty body.
 
-ghost use Rattle.std.specs.Prelude.{◌≡◌, ◌≢◌, ◌<◌, ◌*◌, ◌==◌, ◌&&◌, ◌||◌, ◌++◌, ◌∷◌, not, true, false, ℕ, List, [], Option, Some, None, is_some, slice_set, replicate, length};
+ghost use Rattle.std.specs.Prelude.{◌≡◌, ◌≢◌, ◌↔◌, ◌+◌, ◌<◌, All, ◌*◌, ◌==◌, ◌&&◌, ◌||◌, ◌++◌, ◌∷◌, not, true, false, ℕ, List, [], Option, Some, None, is_some, slice_set, replicate, length};
 ghost use Rattle.kmem_text.specs.declared.command.Command.{Command};
 ghost use Rattle.kmem_text.specs.declared.command.Command.TheVariants.{Put, Del, Hold, Drop};
 ghost use Rattle.kmem_text.specs.declared.command.Line.{Line};
@@ -15,18 +15,37 @@ ghost use Rattle.kmem_model.specs.SettleWhole.{IsWhole};
 ghost use Rattle.kmem_model.specs.Records.{RecordMap, IsValid, tag_place, id_of, held_at, is_live, live_count, no_records};
 ghost use Rattle.kmem_model.specs.RecordStep.{step, only_looks, leaves_tags, IsInRange, IsValidAs};
 ghost use Rattle.kmem_model.specs.Heap.{HeapState, StandsFor, object_at, hold_at, address_of, address_in, places_of};
-ghost use Rattle.kmem_model.specs.History.{IsLegal, IsFullExactly};
+ghost use Rattle.kmem_model.specs.declared.record_entry.RecordEntry.{RecordEntry};
+ghost use Rattle.kmem_model.specs.History.{map_after, is_full_due, IsLegalHistory, IsShared, IsFullExactly, replies_of};
 ghost use Rattle.kmem_model.specs.One.{OneState, one_start, one_workers, buffers_of, least_leftover, one_step};
-ghost use Rattle.kmem_model.specs.OneRun.{run_start, history_of};
+ghost use Rattle.kmem_model.specs.OneRun.{OneRun, run_start, line_run, replies, history_of};
 ghost use Rattle.kmem_model.specs.OneStands.{OneStands, OneEnds, IsOnTag, least_left_in, leaves_objects};
 
-/// What `one` replies is a legal history, for all slabs and buffers, any number of names, all settles and all lines, and `full`
-/// comes exactly where the name of a put is absent and as many records live as there are buffers.
+/// A history followed by another is legal exactly where both are, the second from the map after the first.
+pub fn law_history()
+    ensures legal { (map : RecordMap) (front rest : List (ℕ × RecordEntry)) →
+        IsLegalHistory map (front ++ rest) ↔ (IsLegalHistory map front × IsLegalHistory (map_after map front) rest) }
+    ensures after { (map : RecordMap) (front rest : List (ℕ × RecordEntry)) → map_after map (front ++ rest) ≡ map_after (map_after map front) rest }
+{}
+
+/// What `one` replies is a legal history that is shared by the workers of the lines, for all slabs and buffers, any number of names, all
+/// settles and all lines of workers that count from 1.
 pub fn law_one()
-    ensures legal { (slabs chunks names : ℕ) (every : Option ℕ) (lines : List Line) →
-        IsLegal (no_records names one_workers) (history_of every 1 (run_start slabs chunks names) [] lines) }
-    ensures full { (slabs chunks names : ℕ) (every : Option ℕ) (lines : List Line) →
-        IsFullExactly (slabs * chunks) (no_records names one_workers) (history_of every 1 (run_start slabs chunks names) [] lines) }
+    ensures legal { (slabs chunks names : ℕ) (every : Option ℕ) (lines : List Line) → All (λ line. 0 < line.worker) lines →
+        IsLegalHistory (no_records names one_workers) (history_of every 1 (run_start slabs chunks names) [] lines) }
+    ensures shared { (slabs chunks names : ℕ) (every : Option ℕ) (lines : List Line) → All (λ line. 0 < line.worker) lines →
+        IsShared (history_of every 1 (run_start slabs chunks names) [] lines) lines }
+    ensures replies { (every : Option ℕ) (start : OneRun) (lines : List Line) →
+        replies_of (history_of every 1 start [] lines) ≡ replies every 1 start lines }
+    // how "`full` exactly where there is no room" goes on by a line before others
+    ensures full { (capacity number : ℕ) (every : Option ℕ) (run : OneRun) (before : List Line) (line : Line) (lines : List Line) →
+        0 < line.worker →
+        ((one_step run.state line.worker line.command).reply ≡ Full) ↔ (is_full_due capacity run.state.map line.command ≡ true) →
+        IsFullExactly capacity (line_run every number run line).state.map
+            (history_of every (number + 1) (line_run every number run line) (before ++ line ∷ []) lines) →
+        IsFullExactly capacity run.state.map (history_of every number run before (line ∷ lines)) }
+    ensures buffers { (every : Option ℕ) (number : ℕ) (run : OneRun) (line : Line) →
+        buffers_of (line_run every number run line).state.cache ≡ buffers_of run.state.cache }
 {}
 
 /// Every map that commands make is valid: what names and tags lead to lives, and what lives has a name or a tag. And which tags a command
@@ -75,6 +94,9 @@ pub fn law_one_step()
         (one_step s worker command).state.map ≡ (step s.map worker command).map }
     ensures tags { (s : OneState) (worker : ℕ) (command : Command) → leaves_tags command ≡ true →
         (one_step s worker command).state.map.tags ≡ s.map.tags }
+    // `full` is replied exactly where the name of a put is absent and as many records live as there are buffers
+    ensures full { (s : OneState) (h : HeapState) (worker : ℕ) (command : Command) → OneStands s h →
+        ((one_step s worker command).reply ≡ Full) ↔ (is_full_due (buffers_of s.cache) s.map command ≡ true) }
     // a command that only looks, one on a tag that isn't in use, and one that leaves the objects where they are
     ensures looking { (s : OneState) (h : HeapState) (worker : ℕ) (command : Command) →
         OneStands s h → only_looks command ≡ true →
@@ -120,10 +142,11 @@ pub fn law_one_step()
 
 #[cfg(test)]
 mod tests {
-    use super::{law_one, law_one_step, law_out, law_room, law_step};
+    use super::{law_history, law_one, law_one_step, law_out, law_room, law_step};
 
     #[test]
     fn laws_can_be_called() {
+        law_history();
         law_one();
         law_one_step();
         law_step();
