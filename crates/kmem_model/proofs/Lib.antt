@@ -29,4 +29,5 @@ pub mod SettleEnds
 pub mod SettleFewest
 pub mod SettleSizes
 pub mod OneSettles
+pub mod SettleEntries
 pub mod SettleMarks

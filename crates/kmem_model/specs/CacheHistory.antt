@@ -22,6 +22,17 @@ IsCacheLegal slabs chunks limit history = IsSome (cache_after slabs chunks limit
 abbrev pub Reaches : ℕ → ℕ → ℕ → List (ℕ × CacheEntry) → CacheState → Type 0
 Reaches slabs chunks limit history s = cache_after slabs chunks limit history ≡ Some s
 
+-- Entries without their passes
+
+-- the state after these entries, or nothing where one of them isn't legal at its place
+abbrev pub entered_all : CacheState → List CacheEntry → Option CacheState
+entered_all s [] = Some s
+entered_all s (e ∷ es) = option_and_then (λ next. entered_all next es) (enter s e)
+
+-- these entries lead from one state to another
+abbrev pub Follows : CacheState → List CacheEntry → CacheState → Type 0
+Follows s es t = entered_all s es ≡ Some t
+
 -- What may come next
 
 -- the entry is legal in this state

@@ -23,4 +23,5 @@ pub mod PlacesEvent
 pub mod PlacesLaw
 pub mod PlacesRows
 pub mod Report
+pub mod SettleEntries
 pub mod SettleMarks

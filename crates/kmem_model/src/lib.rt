@@ -19,5 +19,6 @@ pub use plan::Plan;
 pub use record_entry::RecordEntry;
 pub use record_laws::{law_history, law_one, law_one_step, law_out, law_room, law_step};
 pub use settle_laws::{
-    law_fewest, law_moves, law_rest_marked, law_scans, law_settle, law_settle_rows, law_whole,
+    law_fewest, law_moves, law_rest_marked, law_scans, law_settle, law_settle_entries,
+    law_settle_rows, law_whole,
 };

@@ -1,7 +1,7 @@
 //! Laws of settle. Each is a function that does nothing: its contract is the law.
 #![tactic(auto)]
 
-ghost use Rattle.std.specs.Prelude.{ℕ, ◌≡◌, ◌+◌, ◌*◌, ◌<◌, true, false, List, Some, None, IsSome, replicate};
+ghost use Rattle.std.specs.Prelude.{ℕ, Bool, count_by, ◌≡◌, ◌+◌, ◌*◌, ◌<◌, true, false, List, Some, None, IsSome, replicate};
 ghost use Rattle.kmem_model.specs.declared.cache_entry.Said.{Said};
 ghost use Rattle.kmem_model.specs.declared.cache_entry.Said.TheVariants.{Yes, No, Later, DontKnow};
 ghost use Rattle.kmem_model.specs.declared.cache_entry.CacheEntry.{CacheEntry};
@@ -10,7 +10,9 @@ ghost use Rattle.kmem_model.specs.CacheState.{SlabState, CacheState, is_out, ope
 ghost use Rattle.kmem_model.specs.CacheOrder.{is_idle};
 ghost use Rattle.kmem_model.specs.CacheEnter.{enter};
 ghost use Rattle.kmem_model.specs.CacheHistory.{IsLegal};
-ghost use Rattle.kmem_model.specs.Settle.{Stage, Course, said_at, moved, scanned, is_rest_marked, is_done, with_scan, settled_in};
+ghost use Rattle.kmem_model.specs.SettleEntries.{moves_entries, AreEntriesOf};
+ghost use Rattle.kmem_model.specs.Report.{is_end_by, is_gone_entry};
+ghost use Rattle.kmem_model.specs.Settle.{Stage, EndedMove, Course, said_at, moved, scanned, is_rest_marked, is_done, with_scan, settled_in};
 ghost use Rattle.kmem_model.specs.SettleRows.{six_slabs, settle_moves, settle_slabs, movable_moves, movable_slabs, fixed_moves, fixed_slabs};
 ghost use Rattle.kmem_model.specs.SettleWhole.{IsWhole, IsWholeStage, IsSettled, AreAllMovable, HasFewestSlabs, is_known, enough};
 ghost use Rattle.kmem_model.specs.SettleMarks.{is_at_most_one_plain};
@@ -71,6 +73,16 @@ pub fn law_scans()
         scanned_all course ≡ Some (with_scan course.moves scan) }
 {}
 
+/// The entries of a settle: they lead from the cache before it to the cache after it, and end just its moves. And how many of the entries
+/// of moves end them so; none ends unasked.
+pub fn law_settle_entries()
+    ensures entries { (stage : Stage) (course : Course) → IsWholeStage stage → settled stage ≡ Some course →
+        (entries : List CacheEntry) × AreEntriesOf stage course entries }
+    ensures ends { (is : Said → Bool) (moves : List EndedMove) →
+        count_by (is_end_by is) (moves_entries moves) ≡ count_by (λ (move : EndedMove). is move.said) moves }
+    ensures none_gone { (moves : List EndedMove) → count_by is_gone_entry (moves_entries moves) ≡ 0 }
+{}
+
 /// Every partial slab after the first has a mark exactly where at most one has none, and where that one is the only partial slab.
 pub fn law_rest_marked()
     ensures { (slabs : List SlabState) → is_rest_marked slabs ≡ is_at_most_one_plain slabs }
@@ -89,7 +101,8 @@ pub fn law_settle_rows()
 #[cfg(test)]
 mod tests {
     use super::{
-        law_fewest, law_moves, law_rest_marked, law_scans, law_settle, law_settle_rows, law_whole,
+        law_fewest, law_moves, law_rest_marked, law_scans, law_settle, law_settle_entries,
+        law_settle_rows, law_whole,
     };
 
     #[test]
@@ -100,6 +113,7 @@ mod tests {
         law_moves();
         law_scans();
         law_rest_marked();
+        law_settle_entries();
         law_settle_rows();
     }
 }
