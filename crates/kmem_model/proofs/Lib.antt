@@ -29,5 +29,6 @@ pub mod SettleEnds
 pub mod SettleFewest
 pub mod SettleSizes
 pub mod OneSettles
+pub mod CacheCounts
 pub mod SettleEntries
 pub mod SettleMarks
