@@ -33,11 +33,11 @@ anything : {A : Type 0} (r : Result A LineFault) → IfOk r (λ _. Unit {0})
 anything (Ok x) = tt
 anything (Err e) = tt
 
-tag_within : (b : Bool) (digit : ℕ) → is_within 48 55 digit ≡ b → IfOk (cond b (Ok (record { 0 = digit - 48 })) (Err fault.Tag)) (λ (t : Tag). t.0 < 8)
+tag_within : (b : Bool) (digit : ℕ) → is_within 48 55 digit ≡ b → IfOk (cond b (Ok (digit - 48)) (Err fault.Tag)) (λ (t : Tag). t < 8)
 tag_within true digit h = grind (arith, nat_tests)
 tag_within false digit h = tt
 
-tag_read : (token : List ℕ) → IfOk (tag_of token) (λ t. t.0 < 8)
+tag_read : (token : List ℕ) → IfOk (tag_of token) (λ t. t < 8)
 tag_read [] = tt
 tag_read (digit ∷ []) = tag_within (is_within 48 55 digit) digit refl
 tag_read (digit ∷ next ∷ more) = tt
@@ -75,10 +75,10 @@ further_read names word.First tokens = alone_read names spelled.First tokens tt
 further_read names word.Next tokens = name_read names spelled.Next tokens (λ _. tt)
 further_read names word.Count tokens = alone_read names spelled.Count tokens tt
 further_read names word.Link tokens = two_read names (λ _. Unit {0}) name_of name_of spelled.Link tokens (λ token. anything (name_of token)) (λ x y _. tt)
-further_read names word.Hold tokens = two_read names (λ t. t.0 < 8) tag_of name_of spelled.Hold tokens tag_read (λ x y small. small)
-further_read names word.Read tokens = one_read names (λ t. t.0 < 8) tag_of spelled.Read tokens tag_read (λ x small. small)
-further_read names word.Write tokens = two_read names (λ t. t.0 < 8) tag_of value_of spelled.Write tokens tag_read (λ x y small. small)
-further_read names word.Drop tokens = one_read names (λ t. t.0 < 8) tag_of spelled.Drop tokens tag_read (λ x small. small)
+further_read names word.Hold tokens = two_read names (λ t. t < 8) tag_of name_of spelled.Hold tokens tag_read (λ x y small. small)
+further_read names word.Read tokens = one_read names (λ t. t < 8) tag_of spelled.Read tokens tag_read (λ x small. small)
+further_read names word.Write tokens = two_read names (λ t. t < 8) tag_of value_of spelled.Write tokens tag_read (λ x y small. small)
+further_read names word.Drop tokens = one_read names (λ t. t < 8) tag_of spelled.Drop tokens tag_read (λ x small. small)
 further_read names word.Fix tokens = name_read names spelled.Fix tokens (λ _. tt)
 further_read names word.Loose tokens = name_read names spelled.Loose tokens (λ _. tt)
 

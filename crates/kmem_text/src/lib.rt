@@ -1,6 +1,7 @@
 //! Texts: names, values, commands and replies, and how a script and a reply are spelled.
 #![tactic(auto)]
 
+mod bytes;
 mod command;
 mod laws;
 mod lines;
@@ -12,6 +13,7 @@ mod text;
 mod tokens;
 mod words;
 
+pub use bytes::{CARRIAGE_RETURN, COMMENT_SIGN, LINE_FEED, SPACE, TAB};
 pub use command::{Command, Line, NameId, Reply, Script, Tag};
 pub use laws::{law_layout, law_written};
 pub use number::number_within;

@@ -59,10 +59,7 @@ pub fn read_script(alloc: Global, bytes: &[u8], workers: u32) -> Result<Script, 
     ensures tags { IfOk result (λ script. All (λ line. IsWithinTags line.command) script.lines.items) }
     ensures workers { IfOk result (λ script. All (λ line. (0 < line.worker) × (line.worker ≤ workers)) script.lines.items) }
 {
-    let spelled = match spelled_lines(alloc, bytes, workers) {
-        Ok(spelled) => spelled,
-        Err(error) => return Err(error),
-    };
+    let spelled = spelled_lines(alloc, bytes, workers)?;
     let names = names_of(alloc, &spelled)?;
     let lines = placed_lines(alloc, &spelled, &names)?;
     Ok(Script { names, lines })

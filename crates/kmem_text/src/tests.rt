@@ -1,5 +1,6 @@
 use crate::{
-    Command, LineFault, NameId, Reply, Script, ScriptError, Value, read_script, write_reply,
+    Command, Line, LineFault, NameId, Reply, Script, ScriptError, Tag, Value, read_script,
+    write_reply,
 };
 use std::alloc::Global;
 use std::test::Fail;
@@ -39,10 +40,10 @@ fn parts(command: &Command) -> (&'static str, usize, usize) {
         Command::Next(name) => ("next", name.0 as usize, 0),
         Command::Count => ("count", 0, 0),
         Command::Link(name, other) => ("link", name.0 as usize, other.0 as usize),
-        Command::Hold(tag, name) => ("hold", tag.0 as usize, name.0 as usize),
-        Command::Read(tag) => ("read", tag.0 as usize, 0),
-        Command::Write(tag, value) => ("write", tag.0 as usize, value.as_bytes().len()),
-        Command::Drop(tag) => ("drop", tag.0 as usize, 0),
+        Command::Hold(tag, name) => ("hold", usize::from(tag.number()), name.0 as usize),
+        Command::Read(tag) => ("read", usize::from(tag.number()), 0),
+        Command::Write(tag, value) => ("write", usize::from(tag.number()), value.as_bytes().len()),
+        Command::Drop(tag) => ("drop", usize::from(tag.number()), 0),
         Command::Fix(name) => ("fix", name.0 as usize, 0),
         Command::Loose(name) => ("loose", name.0 as usize, 0),
     }
@@ -256,5 +257,23 @@ fn texts_of_replies(rt: HostRuntime) -> Result<(), Fail> {
     let len = write_reply(&script, &Reply::At(NameId(0), value), &mut out);
     assert!(rt; len < out.len());
     assert_eq!(rt; &out[..len], b"at a x~!".as_slice());
+    Ok(())
+}
+
+#[test]
+fn lines_compare(rt: HostRuntime) -> Result<(), Fail> {
+    let script = script_of(rt.alloc(), b"1 hold 7 b\n2 put b x")?;
+    let x = Value::from_bytes(b"x").ok_or("a value")?;
+    let y = Value::from_bytes(b"y").ok_or("a value")?;
+    let hold = Line {
+        worker: 1,
+        command: Command::Hold(Tag::new(7), NameId(0)),
+    };
+    let put = Line {
+        worker: 2,
+        command: Command::Put(NameId(0), x),
+    };
+    assert_eq!(rt; script.lines.as_slice(), [hold, put].as_slice());
+    assert_ne!(rt; put.command, Command::Put(NameId(0), y));
     Ok(())
 }

@@ -14,7 +14,7 @@ use std::cmp::Ordering;
 use std::marker::Model;
 
 /// A name: 1 to 32 bytes of `a` to `z`, `0` to `9`, `_`, `-` and `.`. Names are ordered by their bytes.
-#[derive(Copy)]
+#[derive(Copy, Debug)]
 pub struct Name {
     bytes: [u8; 32],
     len: u8,
@@ -127,7 +127,7 @@ fn is_name_byte(byte: u8) -> bool
 }
 
 /// A value: 1 to 64 bytes from 0x21 to 0x7E.
-#[derive(Copy)]
+#[derive(Copy, Debug)]
 pub struct Value {
     bytes: [u8; 64],
     len: u8,
@@ -157,6 +157,20 @@ impl Clone for Value {
     fn clone(&self) -> Result<Value, AllocError> {
         Ok(*self)
     }
+}
+
+impl PartialEq for Value {
+    ghost eq = { pointwise ◌==◌ };
+
+    ghost laws = { Prim.search (comparing, rules) };
+
+    fn eq(&self, other: &Value) -> bool {
+        self.as_bytes() == other.as_bytes()
+    }
+}
+
+impl Eq for Value {
+    ghost laws = { Prim.search (comparing, rules) };
 }
 
 impl Value {
