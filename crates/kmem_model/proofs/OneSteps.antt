@@ -303,13 +303,13 @@ not_in_use s h place stands e =
     by_id None e = refl
     by_id (Some id) e = absurd (cc)
 
-pub idle_ends : (s : OneState) (h : HeapState) (worker : ℕ) (command : Command) (tag : Tag) → OneStands s h → hold_at h (tag_place worker tag.0) ≡ None → IsOnTag command tag → OneEnds (one_step s worker command) Idle s.cache h
+pub idle_ends : (s : OneState) (h : HeapState) (worker : ℕ) (command : Command) (tag : Tag) → OneStands s h → hold_at h (tag_place worker tag) ≡ None → IsOnTag command tag → OneEnds (one_step s worker command) Idle s.cache h
 idle_ends s h worker command tag stands none on =
     let is = idle_step command on in
     subst (λ reply. OneEnds (one_step s worker command) reply s.cache h) is.1 (unmoved_ends s h worker command stands (leaves command on) is.0)
   where
-    none_held : held_at s.map (tag_place worker tag.0) ≡ None
-    none_held = not_in_use s h (tag_place worker tag.0) stands none
+    none_held : held_at s.map (tag_place worker tag) ≡ None
+    none_held = not_in_use s h (tag_place worker tag) stands none
 
     leaves : (c : Command) → IsOnTag c tag → leaves_objects c ≡ true
     leaves (Read t) on = refl
@@ -327,9 +327,9 @@ idle_ends s h worker command tag stands none on =
     leaves (Loose name) on = absurd on
 
     idle_step : (c : Command) → IsOnTag c tag → ((step s.map worker c).map ≡ s.map) × ((step s.map worker c).reply ≡ Idle)
-    idle_step (Read t) on = let e = ap (λ (u : Tag). held_at s.map (tag_place worker u.0)) on ∙ none_held in (ap (λ x. (read_step s.map x).map) e, ap (λ x. (read_step s.map x).reply) e)
-    idle_step (Write t value) on = let e = ap (λ (u : Tag). held_at s.map (tag_place worker u.0)) on ∙ none_held in (ap (λ x. (write_step s.map value x).map) e, ap (λ x. (write_step s.map value x).reply) e)
-    idle_step (Drop t) on = let e = ap (λ (u : Tag). held_at s.map (tag_place worker u.0)) on ∙ none_held in (ap (λ x. (drop_step s.map (tag_place worker t.0) x).map) e, ap (λ x. (drop_step s.map (tag_place worker t.0) x).reply) e)
+    idle_step (Read t) on = let e = ap (λ (u : Tag). held_at s.map (tag_place worker u)) on ∙ none_held in (ap (λ x. (read_step s.map x).map) e, ap (λ x. (read_step s.map x).reply) e)
+    idle_step (Write t value) on = let e = ap (λ (u : Tag). held_at s.map (tag_place worker u)) on ∙ none_held in (ap (λ x. (write_step s.map value x).map) e, ap (λ x. (write_step s.map value x).reply) e)
+    idle_step (Drop t) on = let e = ap (λ (u : Tag). held_at s.map (tag_place worker u)) on ∙ none_held in (ap (λ x. (drop_step s.map (tag_place worker t) x).map) e, ap (λ x. (drop_step s.map (tag_place worker t) x).reply) e)
     idle_step (Put name value) on = absurd on
     idle_step (Get name) on = absurd on
     idle_step (Del name) on = absurd on

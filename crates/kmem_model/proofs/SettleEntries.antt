@@ -8,6 +8,7 @@ use Rattle.std.proofs.lemmas.List.{append-nil}
 use Rattle.std.proofs.lemmas.Grind.{flat_map-append}
 use Rattle.kmem_model.proofs.CacheLists.{count-cons}
 use Rattle.kmem_model.proofs.PlacesKept.{and_then_says}
+use Rattle.kmem_model.proofs.SettleWhole.{enter_whole}
 use Rattle.kmem_model.proofs.SettleKept.{IsNext, IsMovedOn}
 use Rattle.kmem_model.proofs.SettleScan.{with_ended, moved_keeps, scan_whole, scan_from}
 use Rattle.kmem_model.proofs.SettleScanned.{IsScanned, scan_says, scan_ends}
@@ -17,7 +18,7 @@ use Rattle.kmem_model.specs.CacheOrder.{is_idle}
 use Rattle.kmem_model.specs.CacheEnter.{unmarked, scan_started, enter}
 use Rattle.kmem_model.specs.CacheHistory.{entered_all, Follows}
 use Rattle.kmem_model.specs.Settle.{Stage, EndedMove, Course, says_after, after_move, cache_after_move, moved_in, moved, scanned, is_done, with_scan, scanned_in, settled_in}
-use Rattle.kmem_model.specs.SettleWhole.{IsWholeStage, enough}
+use Rattle.kmem_model.specs.SettleWhole.{IsWhole, IsWholeStage, enough}
 use Rattle.kmem_model.specs.SettleMeasure.{IsInSettle, settled}
 use Rattle.kmem_model.specs.SettleTurns.{with_cache, course_at}
 use Rattle.kmem_model.specs.SettleEntries.{move_entries, moves_entries, scan_made, scans_made, settle_entries, AreEntriesOf}
@@ -33,6 +34,13 @@ follows-append [] ys s t u first second = let same : Some s ≡ Some t = first i
 follows-append (x ∷ xs) ys s t u first second =
     let (n, e, rest) = and_then_says (λ next. entered_all next xs) (enter s x) t first in
     ap (option_and_then (λ next. entered_all next (xs ++ ys))) e ∙ follows-append xs ys n t u rest second
+
+-- entries keep a cache whole
+pub follows_whole : (es : List CacheEntry) (s t : CacheState) → IsWhole s → Follows s es t → IsWhole t
+follows_whole [] s t whole e = let both : Some s ≡ Some t = e in let same : s ≡ t = cc in subst IsWhole same whole
+follows_whole (x ∷ xs) s t whole e =
+    let (n, e1, e2) = and_then_says (λ next. entered_all next xs) (enter s x) t e in
+    follows_whole xs n t (enter_whole s n x whole e1) e2
 
 -- One scan
 

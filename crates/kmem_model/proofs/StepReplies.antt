@@ -64,10 +64,10 @@ step_within m worker First = at_within m 0 (least_name m 0) refl
 step_within m worker (Next name) = at_within m (name.0 + 1) (least_name m (name.0 + 1)) refl
 step_within m worker Count = tt
 step_within m worker (Link name other) = link_within m other.0 (id_of m name.0)
-step_within m worker (Hold tag name) = hold_within m (tag_place worker tag.0) (held_at m (tag_place worker tag.0)) (id_of m name.0)
-step_within m worker (Read tag) = read_within m (held_at m (tag_place worker tag.0))
-step_within m worker (Write tag value) = write_within m value (held_at m (tag_place worker tag.0))
-step_within m worker (Drop tag) = drop_within m (tag_place worker tag.0) (held_at m (tag_place worker tag.0))
+step_within m worker (Hold tag name) = hold_within m (tag_place worker tag) (held_at m (tag_place worker tag)) (id_of m name.0)
+step_within m worker (Read tag) = read_within m (held_at m (tag_place worker tag))
+step_within m worker (Write tag value) = write_within m value (held_at m (tag_place worker tag))
+step_within m worker (Drop tag) = drop_within m (tag_place worker tag) (held_at m (tag_place worker tag))
 step_within m worker (Fix name) = fix_within m true (id_of m name.0)
 step_within m worker (Loose name) = fix_within m false (id_of m name.0)
 

@@ -112,10 +112,10 @@ step_keeps m worker First v r = at_keeps m v (least_name m 0)
 step_keeps m worker (Next name) v r = at_keeps m v (least_name m (name.0 + 1))
 step_keeps m worker Count v r = same m v
 step_keeps m worker (Link name other) v r = link_keeps m name.0 other.0 r.names.1 v (id_of m name.0) refl
-step_keeps m worker (Hold tag name) v r = hold_keeps m (tag_place worker tag.0) name.0 (place_within worker tag.0 (length m.tags) r.first r.tags r.last) v (held_at m (tag_place worker tag.0)) (id_of m name.0) refl refl
-step_keeps m worker (Read tag) v r = read_keeps m v (held_at m (tag_place worker tag.0))
-step_keeps m worker (Write tag value) v r = write_keeps m value v (held_at m (tag_place worker tag.0))
-step_keeps m worker (Drop tag) v r = drop_keeps m (tag_place worker tag.0) v (held_at m (tag_place worker tag.0)) refl
+step_keeps m worker (Hold tag name) v r = hold_keeps m (tag_place worker tag) name.0 (place_within worker tag (length m.tags) r.first r.tags r.last) v (held_at m (tag_place worker tag)) (id_of m name.0) refl refl
+step_keeps m worker (Read tag) v r = read_keeps m v (held_at m (tag_place worker tag))
+step_keeps m worker (Write tag value) v r = write_keeps m value v (held_at m (tag_place worker tag))
+step_keeps m worker (Drop tag) v r = drop_keeps m (tag_place worker tag) v (held_at m (tag_place worker tag)) refl
 step_keeps m worker (Fix name) v r = fix_keeps m true v (id_of m name.0)
 step_keeps m worker (Loose name) v r = fix_keeps m false v (id_of m name.0)
 

@@ -1,10 +1,12 @@
 -- A record history: the entries of all workers in one order, and when it is legal for a script (this project's own rule).
-use Rattle.std.specs.Prelude.{◌≡◌, ◌⊎◌, ◌↔◌, ◌+◌, ◌-◌, ℕ, Bool, true, false, ◌==◌, ◌&&◌, List, [], ◌∷◌, map, filter, is_none, if◌then◌else◌}
+use Rattle.std.specs.Prelude.{◌≡◌, ◌⊎◌, ◌↔◌, ◌+◌, ◌++◌, ◌<◌, All, ℕ, Bool, true, false, ◌==◌, ◌&&◌, List, [], ◌∷◌, map, filter, is_none, if◌then◌else◌}
 use Rattle.kmem_text.specs.declared.command.Command.{Command}
-use Rattle.kmem_text.specs.declared.command.Command.TheVariants.{Put}
+use Rattle.std.specs.List.{list_any}
+use Rattle.kmem_text.specs.Grammar.{IsWithinNames, IsWithinTags}
+use Rattle.kmem_text.specs.declared.command.Command.TheVariants.{Put, Hold, Drop, Fix}
 use Rattle.kmem_text.specs.declared.command.Line.{Line}
 use Rattle.kmem_text.specs.declared.command.Reply.{Reply}
-use Rattle.kmem_text.specs.declared.command.Reply.TheVariants.{Full}
+use Rattle.kmem_text.specs.declared.command.Reply.TheVariants.{Full, Done}
 use Rattle.kmem_model.specs.declared.record_entry.RecordEntry.{RecordEntry}
 use Rattle.kmem_model.specs.Records.{RecordMap, id_of, live_count}
 use Rattle.kmem_model.specs.RecordStep.{step}
@@ -80,3 +82,65 @@ abbrev pub IsFullExactly : ℕ → RecordMap → List (ℕ × RecordEntry) → T
 IsFullExactly capacity m [] = Unit {0}
 IsFullExactly capacity m (e ∷ h) =
     ((e.1.reply ≡ Full) ↔ (is_full_due capacity m e.1.command ≡ true)) × IsFullExactly capacity (map_next m e) h
+
+-- Tags and fixed records along a history
+
+-- the entry's names, tags and pass are among so many
+pub record IsEntryWithin (names workers : ℕ) (e : ℕ × RecordEntry) : Type 0 where
+  pub named : IsWithinNames names e.1.command
+  pub tagged : IsWithinTags e.1.command
+  pub pass : e.0 < workers
+
+-- the reply is `ok`
+abbrev pub is_done : Reply → Bool
+is_done Done = true
+is_done _ = false
+
+-- a `hold`, and a `drop`, of this tag
+abbrev pub is_hold_of : ℕ → Command → Bool
+is_hold_of tag (Hold t name) = t == tag
+is_hold_of tag _ = false
+
+abbrev pub is_drop_of : ℕ → Command → Bool
+is_drop_of tag (Drop t) = t == tag
+is_drop_of tag _ = false
+
+-- a worker's entry takes its tag, by a `hold` with `ok`, and gives it up, by a `drop` with `ok`
+abbrev pub takes_tag : ℕ → RecordEntry → Bool
+takes_tag tag e = is_done e.reply && is_hold_of tag e.command
+
+abbrev pub drops_tag : ℕ → RecordEntry → Bool
+drops_tag tag e = is_done e.reply && is_drop_of tag e.command
+
+-- whether a worker's tag is in use after these entries of it, by whether it was before them
+abbrev pub in_use : ℕ → Bool → List RecordEntry → Bool
+in_use tag before [] = before
+in_use tag before (e ∷ es) = in_use tag (if takes_tag tag e then true else (if drops_tag tag e then false else before)) es
+
+-- the entries of a pass, in their order
+abbrev pub own_entries : ℕ → List (ℕ × RecordEntry) → List RecordEntry
+own_entries pass h = map (λ e. e.1) (filter (λ e. e.0 == pass) h)
+
+-- one of these entries of a worker takes the tag, and none behind it gives it up
+pub record IsTaken (tag : ℕ) (es : List RecordEntry) : Type 0 where
+  pub front : List RecordEntry
+  pub taking : RecordEntry
+  pub rest : List RecordEntry
+  pub whole : es ≡ front ++ taking ∷ rest
+  pub takes : takes_tag tag taking ≡ true
+  pub kept : All (λ e. drops_tag tag e ≡ false) rest
+
+-- some `hold`, and some `fix`, with `ok`
+abbrev pub is_hold : Command → Bool
+is_hold (Hold t name) = true
+is_hold _ = false
+
+abbrev pub is_fix : Command → Bool
+is_fix (Fix name) = true
+is_fix _ = false
+
+abbrev pub has_held : List (ℕ × RecordEntry) → Bool
+has_held h = list_any (λ e. is_done e.1.reply && is_hold e.1.command) h
+
+abbrev pub has_fixed : List (ℕ × RecordEntry) → Bool
+has_fixed h = list_any (λ e. is_done e.1.reply && is_fix e.1.command) h

@@ -15,18 +15,10 @@ ghost use Rattle.kmem_model.specs.SettleWhole.{IsWhole};
 ghost use Rattle.kmem_model.specs.Records.{RecordMap, IsValid, tag_place, id_of, held_at, is_live, live_count, no_records};
 ghost use Rattle.kmem_model.specs.RecordStep.{step, only_looks, leaves_tags, IsInRange, IsValidAs};
 ghost use Rattle.kmem_model.specs.Heap.{HeapState, StandsFor, object_at, hold_at, address_of, address_in, places_of};
-ghost use Rattle.kmem_model.specs.declared.record_entry.RecordEntry.{RecordEntry};
-ghost use Rattle.kmem_model.specs.History.{map_after, is_full_due, IsLegalHistory, IsShared, IsFullExactly, replies_of};
+ghost use Rattle.kmem_model.specs.History.{is_full_due, IsLegalHistory, IsShared, IsFullExactly, replies_of};
 ghost use Rattle.kmem_model.specs.One.{OneState, one_start, one_workers, buffers_of, least_leftover, one_step};
 ghost use Rattle.kmem_model.specs.OneRun.{OneRun, run_start, line_run, replies, history_of};
 ghost use Rattle.kmem_model.specs.OneStands.{OneStands, OneEnds, IsOnTag, least_left_in, leaves_objects};
-
-/// A history followed by another is legal exactly where both are, the second from the map after the first.
-pub fn law_history()
-    ensures legal { (map : RecordMap) (front rest : List (ℕ × RecordEntry)) →
-        IsLegalHistory map (front ++ rest) ↔ (IsLegalHistory map front × IsLegalHistory (map_after map front) rest) }
-    ensures after { (map : RecordMap) (front rest : List (ℕ × RecordEntry)) → map_after map (front ++ rest) ≡ map_after (map_after map front) rest }
-{}
 
 /// What `one` replies is a legal history that is shared by the workers of the lines, for all slabs and buffers, any number of names, all
 /// settles and all lines of workers that count from 1.
@@ -57,11 +49,11 @@ pub fn law_step()
     ensures tags { (map : RecordMap) (worker : ℕ) (command : Command) →
         leaves_tags command ≡ true → (step map worker command).map.tags ≡ map.tags }
     ensures held { (map : RecordMap) (worker : ℕ) (tag : Tag) (name : NameId) → (step map worker (Hold tag name)).reply ≡ Done →
-        (id : ℕ) × ((step map worker (Hold tag name)).map.tags ≡ slice_set map.tags (tag_place worker tag.0) (Some id)) }
+        (id : ℕ) × ((step map worker (Hold tag name)).map.tags ≡ slice_set map.tags (tag_place worker tag) (Some id)) }
     ensures not_held { (map : RecordMap) (worker : ℕ) (tag : Tag) (name : NameId) → (step map worker (Hold tag name)).reply ≢ Done →
         (step map worker (Hold tag name)).map.tags ≡ map.tags }
-    ensures dropped { (map : RecordMap) (worker : ℕ) (tag : Tag) → is_some (held_at map (tag_place worker tag.0)) ≡ true →
-        (step map worker (Drop tag)).map.tags ≡ slice_set map.tags (tag_place worker tag.0) None }
+    ensures dropped { (map : RecordMap) (worker : ℕ) (tag : Tag) → is_some (held_at map (tag_place worker tag)) ≡ true →
+        (step map worker (Drop tag)).map.tags ≡ slice_set map.tags (tag_place worker tag) None }
 {}
 
 /// Which buffers are out after one is allocated or freed.
@@ -102,7 +94,7 @@ pub fn law_one_step()
         OneStands s h → only_looks command ≡ true →
         OneEnds (one_step s worker command) (step s.map worker command).reply s.cache h }
     ensures idle { (s : OneState) (h : HeapState) (worker : ℕ) (command : Command) (tag : Tag) →
-        OneStands s h → hold_at h (tag_place worker tag.0) ≡ None → IsOnTag command tag →
+        OneStands s h → hold_at h (tag_place worker tag) ≡ None → IsOnTag command tag →
         OneEnds (one_step s worker command) Idle s.cache h }
     ensures leaving { (s : OneState) (h new : HeapState) (worker : ℕ) (command : Command) →
         OneStands s h → leaves_objects command ≡ true → IsInRange s.map worker command →
@@ -142,11 +134,10 @@ pub fn law_one_step()
 
 #[cfg(test)]
 mod tests {
-    use super::{law_history, law_one, law_one_step, law_out, law_room, law_step};
+    use super::{law_one, law_one_step, law_out, law_room, law_step};
 
     #[test]
     fn laws_can_be_called() {
-        law_history();
         law_one();
         law_one_step();
         law_step();

@@ -9,7 +9,7 @@ ghost use Rattle.kmem_model.specs.declared.cache_entry.CacheEntry.TheVariants.{S
 ghost use Rattle.kmem_model.specs.CacheState.{SlabState, CacheState, is_out, opening};
 ghost use Rattle.kmem_model.specs.CacheOrder.{is_idle};
 ghost use Rattle.kmem_model.specs.CacheEnter.{enter};
-ghost use Rattle.kmem_model.specs.CacheHistory.{IsLegal};
+ghost use Rattle.kmem_model.specs.CacheHistory.{IsLegal, Reaches};
 ghost use Rattle.kmem_model.specs.SettleEntries.{moves_entries, AreEntriesOf};
 ghost use Rattle.kmem_model.specs.Report.{is_end_by, is_gone_entry};
 ghost use Rattle.kmem_model.specs.Settle.{Stage, EndedMove, Course, said_at, moved, scanned, is_rest_marked, is_done, with_scan, settled_in};
@@ -20,11 +20,13 @@ ghost use Rattle.kmem_model.specs.SettleMeasure.{IsInSettle, scanned_all, settle
 ghost use Rattle.kmem_model.specs.SettleTurns.{with_cache, course_at, course_moved, IsMoveOn, IsScanOn};
 
 /// A cache is whole at its opening, as a stage beside a client that knows no object. Every entry keeps it whole,
-/// also while moves are pending.
+/// also while moves are pending; so every state that a legal history reaches is whole.
 pub fn law_whole()
     ensures opening { (slabs chunks limit : ℕ) → 0 < chunks → 0 < limit →
         IsWholeStage (record { cache = opening slabs chunks limit; says = replicate (slabs * chunks) DontKnow }) }
     ensures kept { (s t : CacheState) (entry : CacheEntry) → IsWhole s → enter s entry ≡ Some t → IsWhole t }
+    ensures reached { (slabs chunks limit : ℕ) (history : List (ℕ × CacheEntry)) (s : CacheState) → 0 < chunks → 0 < limit →
+        Reaches slabs chunks limit history s → IsWhole s }
 {}
 
 /// Settle ends: scans enough are made in each whole stage. Whatever number is allowed, what it leaves is whole

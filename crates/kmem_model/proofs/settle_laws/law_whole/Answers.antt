@@ -1,4 +1,9 @@
-use Rattle.kmem_model.proofs.SettleWhole.{enter_whole, opening_stage}
+use Rattle.std.proofs.Common.{◌∙◌, sym}
+use Rattle.kmem_model.specs.CacheState.{opening}
+use Rattle.kmem_model.specs.CacheCounts.{entries_in}
+use Rattle.kmem_model.proofs.CacheCounts.{history_follows}
+use Rattle.kmem_model.proofs.SettleEntries.{follows_whole}
+use Rattle.kmem_model.proofs.SettleWhole.{enter_whole, opening_whole, opening_stage}
 use Rattle.kmem_model.proofs.settle_laws.law_whole.Goals as goal
 
 pub returns-clause-opening : goal.returns-clause-opening
@@ -6,3 +11,7 @@ returns-clause-opening c = λ slabs chunks limit some more. opening_stage slabs 
 
 pub returns-clause-kept : goal.returns-clause-kept
 returns-clause-kept c = λ s t entry whole e. enter_whole s t entry whole e
+
+pub returns-clause-reached : goal.returns-clause-reached
+returns-clause-reached c = λ slabs chunks limit history s some more e.
+    follows_whole (entries_in history) (opening slabs chunks limit) s (opening_whole slabs chunks limit some more) (sym (history_follows history (opening slabs chunks limit)) ∙ e)

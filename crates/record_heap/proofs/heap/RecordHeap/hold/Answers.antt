@@ -20,7 +20,7 @@ pub invariant_of-self : goal.invariant_of-self
 invariant_of-self c =
     let f = c.self.inside in
     let h = f.parts.heap in
-    let place = tag_place c.args.worker c.args.tag.0 in
+    let place = tag_place c.args.worker c.args.tag in
     let leads : address_of h c.args.name.0 ≡ Some c.in-Some.b = sym c.address.ensures ∙ c.in-Some.is in
     let free : hold_at h place ≡ None = none_from (hold_at h place) (sym c.is_used.ensures ∙ c.if-is_used.false) in
     let low : place < length h.tags = omega (arith, c.requires.worker, c.requires.tag, ap (λ (v : HeapView). length v.heap.tags) c.self.view_is) in
@@ -32,7 +32,7 @@ pub returns-clause-stands : goal.returns-clause-stands
 returns-clause-stands c = λ m a valid s.
     let f = c.self.inside in
     let h = f.parts.heap in
-    let place = tag_place c.args.worker c.args.tag.0 in
+    let place = tag_place c.args.worker c.args.tag in
     let leads : address_of h c.args.name.0 ≡ Some c.in-Some.b = sym c.address.ensures ∙ c.in-Some.is in
     let free : hold_at h place ≡ None = none_from (hold_at h place) (sym c.is_used.ensures ∙ c.if-is_used.false) in
     let low : place < length h.tags = omega (arith, c.requires.worker, c.requires.tag, ap (λ (v : HeapView). length v.heap.tags) c.self.view_is) in

@@ -23,7 +23,7 @@ invariant_of-self c =
     let f = c.self.inside in
     let place = c.place_of-place.result in
     let low : place < length f.places.items = omega (arith, c.requires.range, c.place_of-place.ensures, ap (λ (t : TagsState). length t.tags) c.self.view_is) in
-    begun f.stubs.items f.places.items c.self.invariant place low c.issue.new.self c.args.worker c.args.tag.0 c.args.address c.place_of-place.ensures c.requires.worker c.requires.tag
+    begun f.stubs.items f.places.items c.self.invariant place low c.issue.new.self c.args.worker c.args.tag c.args.address c.place_of-place.ensures c.requires.worker c.requires.tag
     (ap (λ s. s.issued) c.issue.ensures.stub)
     (ap (λ s. s.facts) c.issue.ensures.stub ∙ rw (c.from.ensures, c.from-2.ensures, c.from-3.ensures) refl)
 
@@ -35,7 +35,7 @@ returns-clause-tags c =
     (map-set_same (λ (s : StubState). s.home) f.stubs.items place c.issue.new.self c.index_mut-stub.result.now
     (ap (λ s. s.home) c.issue.ensures.stub ∙ ap (λ s. s.home) c.index_mut-stub.ensures.value))
     c.place_of-place.ensures
-    ∙ ap (λ (s : TagsState). record s { tags = set s.tags (tag_place c.args.worker c.args.tag.0) (Some c.args.address) }) c.self.view_is
+    ∙ ap (λ (s : TagsState). record s { tags = set s.tags (tag_place c.args.worker c.args.tag) (Some c.args.address) }) c.self.view_is
 
 pub returns-clause-home : goal.returns-clause-home
 returns-clause-home c =

@@ -1,5 +1,5 @@
 use Rattle.kmem_model.proofs.Legal.{map_after-append, legal-append}
-use Rattle.kmem_model.proofs.record_laws.law_history.Goals as goal
+use Rattle.kmem_model.proofs.history_laws.law_history.Goals as goal
 
 pub returns-clause-legal : goal.returns-clause-legal
 returns-clause-legal c = λ map front rest. legal-append map front rest
