@@ -1,7 +1,7 @@
 //! The object cache.
 ghost use Rattle.std.specs.Prelude.{◌≡◌, ◌≢◌, ◌≤◌, ◌<◌, ◌*◌, ◌↔◌, ℕ, true, false, Some, nat_lt, length, IfOk, OnErr, IsNone, IfSome};
 ghost use Rattle.std.specs.FinSet as set;
-ghost use Rattle.kmem_buf.specs.Homes.{IsOf};
+ghost use Rattle.kmem_buf.specs.Homes.{IsBufferOf};
 ghost use Rattle.kmem_model.specs.CacheState.{slab_at, is_listed, used, opening, slab_count, free_count, out_count, pending_count, dead_count};
 ghost use Rattle.kmem_model.specs.CacheEnter.{enter};
 ghost use Rattle.kmem_model.specs.CacheHistory.{IsLegal};
@@ -123,7 +123,7 @@ impl<K: Kind> ObjectCache<K> {
     /// It costs a pass over the slabs where one is partial, and else at most three.
     pub fn alloc(&mut self) -> Result<Buf<K>, AllocRefused>
         ensures entry { IfOk result (λ buf. enter self.old.state (Alloc buf.number) ≡ Some self.new.state) }
-        ensures ready { IfOk result (λ buf. K.constructed buf.object × IsOf self.old.home.cells buf) }
+        ensures ready { IfOk result (λ buf. K.constructed buf.object × IsBufferOf self.old.home.cells buf) }
         ensures full { (result ≡ Err AllocRefused.Full) ↔ IsLegal self.old.state Full }
         ensures full_entry { result ≡ Err AllocRefused.Full → enter self.old.state Full ≡ Some self.new.state }
         ensures memory { K.never_refuses ≡ true → result ≢ Err AllocRefused.NoMemory }
@@ -141,7 +141,7 @@ impl<K: Kind> ObjectCache<K> {
 
     /// Where it was the last one out of its slab, the slab goes back to the source, or is dead while a move is pending.
     pub fn free(&mut self, buf: Buf<K>)
-        requires of { IsOf self.old.home.cells buf }
+        requires of { IsBufferOf self.old.home.cells buf }
         requires constructed { K.constructed buf.object }
         ensures entry { enter self.old.state (Free buf.number) ≡ Some self.new.state }
         ensures home { self.new.home ≡ self.old.home }

@@ -2,7 +2,7 @@
 use Rattle.std.specs.Prelude.{ℕ, ◌≡◌, true, List, Option, Some, None, slice_set}
 use Rattle.atomic_table.specs.Seated.{TableId}
 use Rattle.kmem_buf.specs.Buffers.{BufState}
-use Rattle.kmem_buf.specs.Homes.{IsOf}
+use Rattle.kmem_buf.specs.Homes.{IsBufferOf}
 use Rattle.kmem_model.specs.Records.{RecordMap, IsValid, id_of}
 use Rattle.kmem_model.specs.RecordStep.{put_step}
 use Rattle.kmem_model.specs.Heap.{Object, StandsFor, blank, object_at, places_of}
@@ -29,7 +29,7 @@ pub record IsReplaced (old : HeapView) (name : ℕ) (value : List ℕ) (offer : 
 -- a buffer that is offered is of these cells, and constructed
 abbrev pub IsReadyOffer : List TableId → Offer → Type 0
 IsReadyOffer cells Nothing = Unit {0}
-IsReadyOffer cells (Fresh buf) = IsOf cells buf × (buf.object ≡ blank)
+IsReadyOffer cells (Fresh buf) = IsBufferOf cells buf × (buf.object ≡ blank)
 IsReadyOffer cells (Refused note) = Unit {0}
 
 -- the put ends thus, and nothing changes

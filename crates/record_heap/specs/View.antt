@@ -4,7 +4,7 @@ use Rattle.std.specs.Coded.{Coded, code_by, coded×, coded_ℕ}
 use Rattle.atomic_table.specs.Seated.{TableId, table_id_coded}
 use Rattle.kmem_text.specs.declared.command.Reply.{Reply}
 use Rattle.kmem_buf.specs.Buffers.{BufState}
-use Rattle.kmem_buf.specs.Homes.{Homes, IsOf}
+use Rattle.kmem_buf.specs.Homes.{Homes, IsBufferOf}
 use Rattle.kmem_model.specs.CacheOrder.{least_below}
 use Rattle.kmem_model.specs.Records.{RecordMap, IsValid, tag_place, id_of, is_live}
 use Rattle.kmem_model.specs.RecordStep.{put_step, del_step}
@@ -67,7 +67,7 @@ IsNew old name value b new =
 
 -- the buffer is of these cells, and constructed
 pub record IsReady (cells : List TableId) (buf : BufState Object) : Type 0 where
-  pub of : IsOf cells buf
+  pub of : IsBufferOf cells buf
   pub blank : buf.object ≡ blank
 
 -- the record of the name ended by its deletion, and this is its buffer

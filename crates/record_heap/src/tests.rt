@@ -1,7 +1,7 @@
 //! A heap over a row of cells, with a pool of their buffers.
 ghost use Rattle.std.specs.Prelude.{◌≡◌, ◌<◌, All, length, IfSome, IfOk};
-ghost use Rattle.kmem_buf.specs.Homes.{IsOf, cell_homes};
-ghost use Rattle.kmem_buf.specs.Answers.{handed_back};
+ghost use Rattle.kmem_buf.specs.Homes.{IsBufferOf, cell_homes};
+ghost use Rattle.kmem_buf.specs.Answers.{buffers_back};
 ghost use Rattle.kmem_model.specs.Heap.{blank};
 ghost use Rattle.record_heap.specs.View.{IsReady};
 ghost use Rattle.record_heap.specs.Puts.{IsReadyOffer};
@@ -316,7 +316,7 @@ impl Bench {
 
     #[tactic(auto, using(crate::proofs::Benches::still, crate::proofs::Benches::renewed))]
     fn take_back_each(&mut self, answer: Answer<RecordKind>)
-        requires { All (λ b. (b.object ≡ blank) × IsOf self.old.home.cells b) (handed_back answer) }
+        requires { All (λ b. (b.object ≡ blank) × IsBufferOf self.old.home.cells b) (buffers_back answer) }
     {
         match answer {
             Answer::DontNeed(old, new) => {

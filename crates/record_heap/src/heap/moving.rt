@@ -1,6 +1,6 @@
 //! Moves, and leftovers that go.
 ghost use Rattle.std.specs.Prelude.{◌≡◌, ◌≤◌, ◌<◌, ℕ, true, false, List, Some, None, IfSome, IfNone, slice_set, length};
-ghost use Rattle.kmem_buf.specs.Homes.{IsOf};
+ghost use Rattle.kmem_buf.specs.Homes.{IsBufferOf};
 ghost use Rattle.kmem_buf.specs.Answers.{IsAnswerTo, verdict_of};
 ghost use Rattle.kmem_model.specs.Records.{RecordMap, IsValid};
 ghost use Rattle.kmem_model.specs.Heap.{blank, places_of, StandsFor, object_at, is_leftover};
@@ -18,7 +18,7 @@ impl RecordHeap {
     /// and its flag, and every name of the record leads to the new address.
     pub fn answer_move(&mut self, from: u32, to: Buf<RecordKind>) -> Answer<RecordKind>
         requires from { from < length self.old.heap.objects }
-        requires to { IsOf self.old.home.cells to × (to.object ≡ blank) }
+        requires to { IsBufferOf self.old.home.cells to × (to.object ≡ blank) }
         ensures answer { said_of (verdict_of result) ≡ says self.old.heap true from }
         ensures buffers { IsAnswerTo (λ o. o ≡ blank) self.old.home.cells from to.number result }
         ensures heap { self.new.heap ≡ heap_after self.old.heap from to.number (says self.old.heap true from) }
@@ -43,7 +43,7 @@ impl RecordHeap {
     /// Takes the leftover with the least address, if there is one.
     pub fn take_leftover(&mut self) -> Option<Buf<RecordKind>>
         ensures none { IfNone result (least_leftover self.old.heap ≡ None) }
-        ensures buf { IfSome result (λ buf. (least_leftover self.old.heap ≡ Some buf.number) × (buf.object ≡ blank) × IsOf self.old.home.cells buf) }
+        ensures buf { IfSome result (λ buf. (least_leftover self.old.heap ≡ Some buf.number) × (buf.object ≡ blank) × IsBufferOf self.old.home.cells buf) }
         ensures stays { IfNone result (self.new ≡ self.old) }
         ensures stands { (m : RecordMap) (addresses : List ℕ) → IsValid m → StandsFor m addresses self.old.heap → StandsFor m addresses self.new.heap }
         ensures places { IfSome result (λ buf. places_of self.new.heap ≡ slice_set (places_of self.old.heap) buf.number false) }

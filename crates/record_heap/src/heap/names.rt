@@ -1,6 +1,6 @@
 //! Commands on names.
 ghost use Rattle.std.specs.Prelude.{◌≡◌, ◌<◌, ℕ, true, false, List, Some, IfSome, IfNone, slice_set, length};
-ghost use Rattle.kmem_buf.specs.Homes.{IsOf};
+ghost use Rattle.kmem_buf.specs.Homes.{IsBufferOf};
 ghost use Rattle.kmem_model.specs.Records.{RecordMap, IsValid, id_of, is_live};
 ghost use Rattle.kmem_model.specs.RecordStep.{del_step, link_step, fix_step};
 ghost use Rattle.kmem_model.specs.Heap.{blank, places_of, StandsFor, address_of};

@@ -1,6 +1,6 @@
 //! The command `put`.
 ghost use Rattle.std.specs.Prelude.{◌≡◌, ◌<◌, ℕ, true, Some, None, length, slice_set};
-ghost use Rattle.kmem_buf.specs.Homes.{IsOf};
+ghost use Rattle.kmem_buf.specs.Homes.{IsBufferOf};
 ghost use Rattle.kmem_model.specs.Heap.{blank, address_of, object_at, is_leftover, places_of};
 ghost use Rattle.record_heap.specs.View.{IsFrame, IsNew};
 ghost use Rattle.record_heap.specs.Puts.{IsReadyOffer, IsReplaced, IsPutNew, offered};
@@ -85,7 +85,7 @@ impl RecordHeap {
     fn make(&mut self, name: NameId, value: Value, buf: Buf<RecordKind>)
         requires name { name.0 < length self.old.heap.names }
         requires absent { address_of self.old.heap name.0 ≡ None }
-        requires buf { IsOf self.old.home.cells buf × (buf.object ≡ blank) }
+        requires buf { IsBufferOf self.old.home.cells buf × (buf.object ≡ blank) }
         ensures empty { object_at self.old.heap buf.number ≡ None }
         ensures new { IsNew self.old name.0 value buf.number self.new }
         ensures places { places_of self.new.heap ≡ slice_set (places_of self.old.heap) buf.number true }

@@ -5,7 +5,7 @@ use Rattle.record_heap.specs.Kept.{IsKept}
 use Rattle.std.specs.List.{list_any}
 use Rattle.std.specs.Option.{option_map_or}
 use Rattle.kmem_buf.specs.Buffers.{BufState}
-use Rattle.kmem_buf.specs.Homes.{IsOf}
+use Rattle.kmem_buf.specs.Homes.{IsBufferOf}
 use Rattle.kmem_model.specs.CacheOrder.{is_the}
 use Rattle.kmem_model.specs.declared.cache_entry.Said.{Said}
 use Rattle.kmem_model.specs.declared.cache_entry.Said.TheVariants as said
@@ -83,11 +83,11 @@ returns-in-DontNeed-clause-buffers c =
     let blank_there = leftover_blank h f.present f.records f.leftovers c.self.invariant c.args.from (need_is (object_at h c.args.from) says) in
     let cells = c.args.self.now.home.cells in (
       ap₂ (λ (x y : ℕ). x ∷ y ∷ []) c.take_out.ensures.buf.0 (ap (λ (b : BufState Object). b.number) c.show_empty-to.ensures.buf),
-      all_two (λ (b : BufState Object). (b.object ≡ blank) × IsOf cells b) c.take_out.result c.show_empty-to.result (
+      all_two (λ (b : BufState Object). (b.object ≡ blank) × IsBufferOf cells b) c.take_out.result c.show_empty-to.result (
         some_is c.take_out.result.object blank (sym c.take_out.ensures.object ∙ (ap (λ (v : HeapView). object_at v.heap c.args.from) parts ∙ blank_there)),
-        subst (λ (v : HeapView). IsOf v.home.cells c.take_out.result) (parts ∙ c.self.view_is) c.take_out.ensures.buf.1,
+        subst (λ (v : HeapView). IsBufferOf v.home.cells c.take_out.result) (parts ∙ c.self.view_is) c.take_out.ensures.buf.1,
       )
-          (subst (λ (b : BufState Object). (b.object ≡ blank) × IsOf cells b) (sym c.show_empty-to.ensures.buf) (c.requires.to.1, c.requires.to.0)),
+          (subst (λ (b : BufState Object). (b.object ≡ blank) × IsBufferOf cells b) (sym c.show_empty-to.ensures.buf) (c.requires.to.1, c.requires.to.0)),
     )
 
 pub returns-in-DontNeed-clause-stands : goal.returns-in-DontNeed-clause-stands

@@ -4,7 +4,7 @@ use Rattle.kmem_model.specs.Heap.{HeapState, StandsFor, address_of, object_at, p
 use Rattle.record_heap.specs.View.{HeapView}
 use Rattle.record_heap.specs.Kept.{IsKept}
 use Rattle.std.proofs.lemmas.List.{map-set}
-use Rattle.kmem_buf.specs.Homes.{IsOf}
+use Rattle.kmem_buf.specs.Homes.{IsBufferOf}
 use Rattle.kmem_model.specs.RecordStep.{del_step}
 use Rattle.record_heap.specs.Objects.{without_back, is_unused}
 use Rattle.record_heap.specs.Changes.{unlinked, with_object}
@@ -154,7 +154,7 @@ returns-clause-out c =
     record {
       ready =
           record {
-            of = subst (λ (v : HeapView). IsOf v.home.cells c.end.result) (c.unlink.ensures ∙ ap (λ (v : HeapView). record v { heap = unlinked v.heap n b }) c.self.view_is) c.end.ensures.buf.1;
+            of = subst (λ (v : HeapView). IsBufferOf v.home.cells c.end.result) (c.unlink.ensures ∙ ap (λ (v : HeapView). record v { heap = unlinked v.heap n b }) c.self.view_is) c.end.ensures.buf.1;
             blank = c.end.ensures.object;
           };
       ended = λ m a valid s id is.

@@ -3,7 +3,7 @@ use Rattle.kmem_model.specs.Heap.{HeapState, StandsFor, object_at, places_of, is
 use Rattle.record_heap.specs.View.{HeapView}
 use Rattle.record_heap.specs.Kept.{IsKept}
 use Rattle.std.proofs.lemmas.List.{map-set}
-use Rattle.kmem_buf.specs.Homes.{IsOf}
+use Rattle.kmem_buf.specs.Homes.{IsBufferOf}
 use Rattle.record_heap.proofs.Kept.{leftover_blank, some_is}
 use Rattle.record_heap.proofs.Puts.{without_kept, without_stands}
 use Rattle.record_heap.proofs.heap.RecordHeap.take_leftover.Goals as goal
@@ -20,7 +20,7 @@ returns-clause-buf c =
     let is = leftover_blank f.parts.heap f.present f.records f.leftovers c.self.invariant c.in_ok-b.b (ap (λ (v : HeapView). is_leftover (object_at v.heap c.in_ok-b.b)) c.self.view_is ∙ c.in_ok-b.ensures.found) in (
       sym c.in_ok-b.ensures.least ∙ ap Some (sym c.take_out.ensures.buf.0),
       some_is c.take_out.result.object blank (sym c.take_out.ensures.object ∙ is),
-      subst (λ (v : HeapView). IsOf v.home.cells c.take_out.result) c.self.view_is c.take_out.ensures.buf.1,
+      subst (λ (v : HeapView). IsBufferOf v.home.cells c.take_out.result) c.self.view_is c.take_out.ensures.buf.1,
     )
 
 pub returns-clause-stands : goal.returns-clause-stands
