@@ -31,6 +31,10 @@ places_in _ = []
 abbrev pub IsUsed : List Line → ℕ → Type 0
 IsUsed lines place = Any (λ (line : Line). Contains (places_in line.command) place) lines
 
+-- workers are counted from 1
+abbrev pub IsWorker : ℕ → ℕ → Type 0
+IsWorker most worker = (0 < worker) × (worker ≤ most)
+
 -- a script for workers 1 to `most`
 pub record IsScript (most : ℕ) (script : Plain) : Type 0 where
   -- names ascend by their bytes, so each stands once
@@ -38,7 +42,7 @@ pub record IsScript (most : ℕ) (script : Plain) : Type 0 where
   pub used : (place : ℕ) → place < length script.names → IsUsed script.lines place
   pub places : All (λ (line : Line). IsWithinNames (length script.names) line.command) script.lines
   pub tags : All (λ (line : Line). IsWithinTags line.command) script.lines
-  pub workers : All (λ (line : Line). (0 < line.worker) × (line.worker ≤ most)) script.lines
+  pub workers : All (λ (line : Line). IsWorker most line.worker) script.lines
   pub few : length script.lines ≤ 100000
   -- a command names two names at the most
   pub few_names : length script.names ≤ 200000

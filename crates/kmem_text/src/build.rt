@@ -7,7 +7,7 @@ ghost use Rattle.std.specs.List.Sorted.{IsStrictlySortedBy};
 ghost use Rattle.std.specs.Cmp.Lexicographic.{slice_cmp};
 ghost use Rattle.std.specs.Ordering.{nat_cmp};
 ghost use Rattle.kmem_text.specs.Grammar.{script_of_lines, in_order, place_of, placed, named, IsAmongNames, IsWithinNames, IsWithinTags};
-ghost use Rattle.kmem_text.specs.Scripts.{plain, IsScript, IsSpelledWithinTags};
+ghost use Rattle.kmem_text.specs.Scripts.{plain, IsScript, IsWorker, IsSpelledWithinTags};
 
 use super::spelling::{Spelled, SpelledLine};
 use super::{Command, Line, Name, NameId, Script};
@@ -19,7 +19,7 @@ impl Script {
     pub fn from_lines(alloc: Global, lines: &[SpelledLine]) -> Result<Script, AllocError>
         requires { length lines.now ≤ 100000 }
         ensures script { IfOk result (λ script. script_of_lines lines.now ≡ plain script) }
-        ensures whole { IfOk result (λ script. (most : ℕ) → All (λ line. (0 < line.worker) × (line.worker ≤ most)) lines.now → IsScript most (plain script)) }
+        ensures whole { IfOk result (λ script. (most : ℕ) → All (λ line. IsWorker most line.worker) lines.now → IsScript most (plain script)) }
     {
         let names = names_of(alloc, lines)?;
         let lines = placed_lines(alloc, lines, &names)?;
@@ -77,7 +77,8 @@ fn placed_lines(
     requires there { All (λ line. AllByRecursion (IsAmongNames names.now) (named line.command)) lines.now }
     ensures within { IfOk result (λ placed_lines. All (λ line. IsWithinNames (length names.now) line.command) placed_lines.items) }
     ensures tags { IfOk result (λ placed_lines. All (λ line. IsWithinTags line.command) placed_lines.items) }
-    ensures lines { IfOk result (λ placed_lines. placed_lines.items ≡ map (λ line. record { worker = line.worker; command = placed names.now line.command }) lines.now) }
+    ensures lines { IfOk result (λ placed_lines. placed_lines.items
+        ≡ map (λ line. record { worker = line.worker; command = placed names.now line.command }) lines.now) }
 {
     let mut placed_lines = Vec::with_capacity(alloc, lines.len())?;
     for line in lines {
