@@ -16,7 +16,7 @@ use Rattle.kmem_text.specs.declared.spelling.LineFault.TheVariants as fault
 use Rattle.kmem_text.specs.declared.command.Tag.{Tag}
 use Rattle.kmem_text.specs.Texts.{is_within, is_name, is_value, is_name_byte, is_value_byte}
 use Rattle.kmem_text.specs.Numbers.{number_within, is_numeral}
-use Rattle.kmem_text.proofs.Tags.{both}
+use Rattle.kmem_text.proofs.Workers.{both}
 use Rattle.kmem_text.specs.Words.{◌>>=◌, or_fault, name_of, value_of, tag_of, one, two, command_of}
 use Rattle.kmem_text.specs.Grammar.{is_blank, tokens_in, tokens_of, lines_of, without_empty_last, holds_command, spelled_of, line_of, fault_or, first_bad, first_bad_of, found_in, spelled_lines, script_of, script_of_lines}
 use Rattle.kmem_text.specs.Layout.{HasNoLineFeed, as_lines, Spaced, Laid, AreBlanks, IsToken, IsSpaced, IsLaid, laid_text, laid_tokens, tag_token, command_tokens, IsGoodCommand, IsGoodLine, laid_line, written}

@@ -1,6 +1,7 @@
 //! Texts: names, values, commands and replies, and how a script and a reply are spelled.
 #![tactic(auto)]
 
+mod build;
 mod bytes;
 mod command;
 mod laws;
@@ -19,7 +20,7 @@ pub use laws::{law_layout, law_written};
 pub use number::number_within;
 pub use reply::write_reply;
 pub use script::{ScriptError, read_script};
-pub use spelling::LineFault;
+pub use spelling::{LineFault, Spelled, SpelledLine};
 pub use text::{Name, Value};
 
 #[cfg(test)]

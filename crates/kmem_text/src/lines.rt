@@ -23,7 +23,8 @@ pub fn spelled_lines(
     ensures lines { IfOk result (λ lines. lines.items ≡ spelled_lines workers (lines_of bytes.now)) }
     ensures good { OnOk result (first_bad_of workers bytes.now ≡ None) }
     ensures few { IfOk result (λ lines. length lines.items ≤ 100000) }
-    ensures error { IfErr result (λ error. Explains error (first_bad_of workers bytes.now) (length (spelled_lines workers (lines_of bytes.now)))) }
+    ensures error { IfErr result (λ error. Explains error (first_bad_of workers bytes.now)
+        (length (spelled_lines workers (lines_of bytes.now)))) }
 {
     let mut lines = Vec::new(alloc);
     let mut tokens = Vec::with_capacity(alloc, MOST_TOKENS)?;

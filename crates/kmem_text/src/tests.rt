@@ -1,6 +1,6 @@
 use crate::{
-    Command, Line, LineFault, NameId, Reply, Script, ScriptError, Tag, Value, read_script,
-    write_reply,
+    Command, Line, LineFault, Name, NameId, Reply, Script, ScriptError, Spelled, SpelledLine, Tag,
+    Value, read_script, write_reply,
 };
 use std::alloc::Global;
 use std::test::Fail;
@@ -261,19 +261,31 @@ fn texts_of_replies(rt: HostRuntime) -> Result<(), Fail> {
 }
 
 #[test]
-fn lines_compare(rt: HostRuntime) -> Result<(), Fail> {
-    let script = script_of(rt.alloc(), b"1 hold 7 b\n2 put b x")?;
+fn lines_make_a_script(rt: HostRuntime) -> Result<(), Fail> {
+    let a = Name::from_bytes(b"a").ok_or("a name")?;
+    let b = Name::from_bytes(b"b").ok_or("a name")?;
     let x = Value::from_bytes(b"x").ok_or("a value")?;
-    let y = Value::from_bytes(b"y").ok_or("a value")?;
-    let hold = Line {
-        worker: 1,
-        command: Command::Hold(Tag::new(7), NameId(0)),
-    };
-    let put = Line {
+    let lines = [
+        SpelledLine {
+            worker: 2,
+            command: Spelled::Link(b, a),
+        },
+        SpelledLine {
+            worker: 1,
+            command: Spelled::Write(Tag::new(7), x),
+        },
+    ];
+    let script = Script::from_lines(rt.alloc(), &lines)?;
+    assert_eq!(rt; script.names.as_slice(), [a, b].as_slice());
+    let link = Line {
         worker: 2,
-        command: Command::Put(NameId(0), x),
+        command: Command::Link(NameId(1), NameId(0)),
     };
-    assert_eq!(rt; script.lines.as_slice(), [hold, put].as_slice());
-    assert_ne!(rt; put.command, Command::Put(NameId(0), y));
+    let write = Line {
+        worker: 1,
+        command: Command::Write(Tag::new(7), x),
+    };
+    assert_eq!(rt; script.lines.as_slice(), [link, write].as_slice());
+    assert_ne!(rt; link, write);
     Ok(())
 }

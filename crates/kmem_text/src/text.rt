@@ -33,7 +33,8 @@ impl Model for Name {
 
     ghost inverse = { λ text. record { bytes = text ++ replicate (32 - length text) 0; len = length text } };
 
-    ghost inverse_ok = { λ n h. λ i. record { bytes = (unpadded is_name 32 n.bytes n.len h).0 i; len = (unpadded is_name 32 n.bytes n.len h).1 i } };
+    ghost inverse_ok = { λ n h. λ i.
+        record { bytes = (unpadded is_name 32 n.bytes n.len h).0 i; len = (unpadded is_name 32 n.bytes n.len h).1 i } };
 }
 
 impl Clone for Name {
@@ -146,7 +147,8 @@ impl Model for Value {
 
     ghost inverse = { λ text. record { bytes = text ++ replicate (64 - length text) 0; len = length text } };
 
-    ghost inverse_ok = { λ n h. λ i. record { bytes = (unpadded is_value 64 n.bytes n.len h).0 i; len = (unpadded is_value 64 n.bytes n.len h).1 i } };
+    ghost inverse_ok = { λ n h. λ i.
+        record { bytes = (unpadded is_value 64 n.bytes n.len h).0 i; len = (unpadded is_value 64 n.bytes n.len h).1 i } };
 }
 
 impl Clone for Value {

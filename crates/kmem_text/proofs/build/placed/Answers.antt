@@ -1,7 +1,7 @@
 use Rattle.std.proofs.Common.{sym, ap, ◌∙◌}
 use Rattle.kmem_text.specs.Grammar.{placed}
 use Rattle.kmem_text.specs.declared.command.Command.TheVariants.{Link, Hold}
-use Rattle.kmem_text.proofs.script.placed.Goals as goal
+use Rattle.kmem_text.proofs.build.placed.Goals as goal
 
 pub returns-in-Link-clause-command : goal.returns-in-Link-clause-command
 returns-in-Link-clause-command c = (λ i. Link (c.place_of-in-Link.ensures.place i) (c.place_of-in-Link-2.ensures.place i)) ∙ ap (placed c.args.names.now) (sym c.in-Link.is)

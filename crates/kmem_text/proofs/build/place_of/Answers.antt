@@ -3,7 +3,7 @@ use Rattle.std.specs.Cmp.Lexicographic.{nat_list_cmp_total}
 use Rattle.std.proofs.lemmas.Bool.{true≢false}
 use Rattle.std.proofs.lemmas.List.Sorted.{searchable_from_sorted}
 use Rattle.kmem_text.proofs.Places.{place_found, none_found, sorted_by}
-use Rattle.kmem_text.proofs.script.place_of.Goals as goal
+use Rattle.kmem_text.proofs.build.place_of.Goals as goal
 
 pub unreachable-requires : goal.unreachable-requires
 unreachable-requires c =
