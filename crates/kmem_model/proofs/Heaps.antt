@@ -13,7 +13,7 @@ use Rattle.kmem_model.specs.CacheState.{CacheState, SlabState, no_slab, slab_at,
 use Rattle.kmem_model.specs.CacheOrder.{least_below, is_the}
 use Rattle.kmem_model.specs.CacheEnter.{is_full}
 use Rattle.kmem_model.specs.Records.{RecordMap, is_live, id_of, held_at, live_count, IsValid}
-use Rattle.kmem_model.specs.Heap.{Object, HeapState, object_at, address_of, hold_at, record_of, has_record, is_leftover, address_in, IsTiedObject, StandsFor}
+use Rattle.kmem_model.specs.Heap.{Object, HeapState, object_at, address_of, hold_at, record_of, has_record, is_leftover, address_in, IsTiedObject, IsPaired}
 use Rattle.kmem_model.specs.SettleWhole.{IsWhole, IsWholeSlab}
 use Rattle.kmem_model.specs.One.{OneState, buffers_of, id_at, least_leftover, has_no_room}
 use Rattle.kmem_model.specs.OneStands.{OneStands, least_left_in}
@@ -66,13 +66,13 @@ pub record LivesAt (m : RecordMap) (addresses : List ℕ) (b : ℕ) : Type 0 whe
   pub address : address_in addresses id ≡ b
   pub within : id < length addresses
 
-pub name_lives : (m : RecordMap) (addresses : List ℕ) (h : HeapState) (name b : ℕ) → IsValid m → StandsFor m addresses h → address_of h name ≡ Some b → LivesAt m addresses b
+pub name_lives : (m : RecordMap) (addresses : List ℕ) (h : HeapState) (name b : ℕ) → IsValid m → IsPaired m addresses h → address_of h name ≡ Some b → LivesAt m addresses b
 name_lives m addresses h name b v s e =
     let at = at_address addresses (id_of m name) b (sym (ap (λ xs. get_or xs name None) s.names ∙ get_or-map_default (option_map (address_in addresses)) m.names name None) ∙ e) in
     let live = v.named name at.0 at.1 in
     record { id = at.0; live = live; address = at.2; within = omega (arith, s.size, live_within m at.0 live) }
 
-pub tag_lives : (m : RecordMap) (addresses : List ℕ) (h : HeapState) (place b : ℕ) → IsValid m → StandsFor m addresses h → hold_at h place ≡ Some b → LivesAt m addresses b
+pub tag_lives : (m : RecordMap) (addresses : List ℕ) (h : HeapState) (place b : ℕ) → IsValid m → IsPaired m addresses h → hold_at h place ≡ Some b → LivesAt m addresses b
 tag_lives m addresses h place b v s e =
     let at = at_address addresses (held_at m place) b (sym (ap (λ xs. get_or xs place None) s.tags ∙ get_or-map_default (option_map (address_in addresses)) m.tags place None) ∙ e) in
     let live = v.held place at.0 at.1 in
@@ -84,7 +84,7 @@ valued_used h b o tied there unused =
     both_ways (is_some o.value) (ap (λ (q : Object). is_some q.value) (tied.blank unused)) there
 
 -- an object with a value is that of an id
-pub object_lives : (m : RecordMap) (addresses : List ℕ) (h : HeapState) (b : ℕ) (o : Object) → IsValid m → StandsFor m addresses h → object_at h b ≡ Some o → is_some o.value ≡ true → LivesAt m addresses b
+pub object_lives : (m : RecordMap) (addresses : List ℕ) (h : HeapState) (b : ℕ) (o : Object) → IsValid m → IsPaired m addresses h → object_at h b ≡ Some o → is_some o.value ≡ true → LivesAt m addresses b
 object_lives m addresses h b o v s e there =
     let tied = s.tied.objects b o e in
     ⊎_elim
@@ -93,7 +93,7 @@ object_lives m addresses h b o v s e there =
     (cases_lt 0 (length o.names))
 
 -- and the object of an id has a value
-pub live_object : (m : RecordMap) (addresses : List ℕ) (h : HeapState) (id : ℕ) (x : Option Object) → StandsFor m addresses h → is_live m id ≡ true → object_at h (address_in addresses id) ≡ x → has_record x ≡ true
+pub live_object : (m : RecordMap) (addresses : List ℕ) (h : HeapState) (id : ℕ) (x : Option Object) → IsPaired m addresses h → is_live m id ≡ true → object_at h (address_in addresses id) ≡ x → has_record x ≡ true
 live_object m addresses h id x s live e = by_object x (ap is_some (sym (ap (option_and_then record_of) e) ∙ s.records id live) ∙ live)
   where
     by_value : (o : Object) (value : Option (List ℕ)) → o.value ≡ value → is_some (record_of o) ≡ true → is_some value ≡ true
@@ -127,7 +127,7 @@ leftover_is s h b stands = by_object (object_at h b) refl
     by_id : (o : Object) → object_at h b ≡ Some o → is_some o.value ≡ false → (x : Option ℕ) → id_at s.map s.addresses b ≡ x → is_none o.value ≡ is_none x
     by_id o e none (Some id) is =
         let at = found_lives s.map s.addresses b id is in
-        absurd (both_ways (is_some o.value) none (live_object s.map s.addresses h id (Some o) stands.stands at.0 (ap (object_at h) at.1 ∙ e)))
+        absurd (both_ways (is_some o.value) none (live_object s.map s.addresses h id (Some o) stands.stands.paired at.0 (ap (object_at h) at.1 ∙ e)))
     by_id o e none None is = is_none_from o.value none
       where
         is_none_from : (x : Option (List ℕ)) → is_some x ≡ false → is_none x ≡ true
@@ -135,7 +135,7 @@ leftover_is s h b stands = by_object (object_at h b) refl
         is_none_from (Some x) e = absurd (both_ways true e refl)
 
     by_value : (o : Object) → object_at h b ≡ Some o → (v : Bool) → is_some o.value ≡ v → is_none o.value ≡ is_none (id_at s.map s.addresses b)
-    by_value o e true there = not_none o.value there ∙ sym (id_found s.map s.addresses b (object_lives s.map s.addresses h b o stands.valid stands.stands e there))
+    by_value o e true there = not_none o.value there ∙ sym (id_found s.map s.addresses b (object_lives s.map s.addresses h b o stands.stands.valid stands.stands.paired e there))
       where
         not_none : (x : Option (List ℕ)) → is_some x ≡ true → is_none x ≡ false
         not_none (Some x) there = refl
@@ -155,7 +155,7 @@ leftover_same s h stands =
 
 -- an address without a record leaves room
 pub room_left : (s : OneState) (h : HeapState) (b : ℕ) → OneStands s h → b < buffers_of s.cache → has_record (object_at h b) ≡ false → live_count s.map < buffers_of s.cache
-room_left s h b stands below none = omega (arith, stands.stands.count, stands.size, count_short has_record h.objects b None (omega (arith, stands.size, below)) none)
+room_left s h b stands below none = omega (arith, stands.stands.paired.count, stands.size, count_short has_record h.objects b None (omega (arith, stands.size, below)) none)
 
 -- every buffer is out in a cache that is full
 pub all_out : (cache : CacheState) (b : ℕ) → IsWhole cache → is_full cache ≡ true → b < buffers_of cache → is_out cache b ≡ true
@@ -172,7 +172,7 @@ all_out cache b whole full below =
 -- and where there is no leftover, each has a record
 pub no_room : (s : OneState) (h : HeapState) → OneStands s h → is_full s.cache ≡ true → least_leftover s ≡ None → live_count s.map ≡ buffers_of s.cache
 no_room s h stands full none =
-    sym stands.stands.count ∙ (count_all has_record h.objects None (λ b below. kept b (omega (arith, below, stands.size))) ∙ stands.size)
+    sym stands.stands.paired.count ∙ (count_all has_record h.objects None (λ b below. kept b (omega (arith, below, stands.size))) ∙ stands.size)
   where
     by_object : (x : Option Object) → is_some x ≡ true → is_leftover x ≡ false → has_record x ≡ true
     by_object None there not_left = there

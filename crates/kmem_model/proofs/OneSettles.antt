@@ -12,7 +12,7 @@ use Rattle.kmem_model.specs.CacheOrder.{is_the}
 use Rattle.kmem_model.specs.declared.cache_entry.Said.{Said}
 use Rattle.kmem_model.specs.declared.cache_entry.Said.TheVariants.{Yes, No, Later, DontNeed, DontKnow}
 use Rattle.kmem_model.specs.Records.{Record, RecordMap, record_at, held_at, is_live, tag_count, IsValid}
-use Rattle.kmem_model.specs.Heap.{Object, HeapState, object_at, record_of, is_leftover, address_in, StandsFor}
+use Rattle.kmem_model.specs.Heap.{Object, HeapState, object_at, record_of, is_leftover, address_in, IsPaired, StandsFor}
 use Rattle.kmem_model.specs.Says.{answer_about, says, heap_after, stage_in, AreInBuffers}
 use Rattle.kmem_model.specs.Settle.{Course, said_at, says_after}
 use Rattle.kmem_model.specs.SettleWhole.{IsWhole, IsWholeStage, is_known}
@@ -30,7 +30,7 @@ count_agree p q d (x ∷ xs) same =
     count-cons p x xs ∙ (ap₂ {A = ℕ} {B = ℕ} (λ m n. m + n) (ap {B = ℕ} (λ b. cond b 1 0) (same 0)) (count_agree p q d xs (λ i. same (suc i))) ∙ sym (count-cons q x xs))
 
 -- the tags with the address of a record are those that hold it
-holds_are : (m : RecordMap) (addresses : List ℕ) (h : HeapState) (id : ℕ) → IsValid m → StandsFor m addresses h → is_live m id ≡ true → count_by (λ a. is_the a (address_in addresses id)) h.tags ≡ tag_count m id
+holds_are : (m : RecordMap) (addresses : List ℕ) (h : HeapState) (id : ℕ) → IsValid m → IsPaired m addresses h → is_live m id ≡ true → count_by (λ a. is_the a (address_in addresses id)) h.tags ≡ tag_count m id
 holds_are m addresses h id v s live =
     ap (count_by (λ a. is_the a (address_in addresses id))) s.tags
     ∙ (count-map (option_map (address_in addresses)) (λ a. is_the a (address_in addresses id)) m.tags
@@ -62,10 +62,10 @@ answer_is s h b stands = by_object (object_at h b) refl
     by_id o e (Some id) is =
         let at = found_lives s.map s.addresses b id is in
         let here : object_at h (address_in s.addresses id) ≡ Some o = ap (object_at h) at.1 ∙ e in
-        let there : is_some o.value ≡ true = live_object s.map s.addresses h id (Some o) stands.stands at.0 here in
-        let same : record_of o ≡ record_at s.map id = sym (ap (option_and_then record_of) here) ∙ stands.stands.records id at.0 in
+        let there : is_some o.value ≡ true = live_object s.map s.addresses h id (Some o) stands.stands.paired at.0 here in
+        let same : record_of o ≡ record_at s.map id = sym (ap (option_and_then record_of) here) ∙ stands.stands.paired.records id at.0 in
         let fixed : o.fixed ≡ is_fixed s.map id = fixed_is s.map id o there same in
-        let holds : o.holds ≡ tag_count s.map id = (stands.stands.tied.objects (address_in s.addresses id) o here).holds ∙ holds_are s.map s.addresses h id stands.valid stands.stands at.0 in
+        let holds : o.holds ≡ tag_count s.map id = (stands.stands.paired.tied.objects (address_in s.addresses id) o here).holds ∙ holds_are s.map s.addresses h id stands.stands.valid stands.stands.paired at.0 in
         cond-false (is_none o.value) DontNeed _ (some_not_none o.value there)
         ∙ (ap (λ f. cond f No (cond (nat_lt 0 o.holds) Later Yes)) fixed ∙ ap (λ n. cond (is_fixed s.map id) No (cond (nat_lt 0 n) Later Yes)) holds)
       where
@@ -135,7 +135,6 @@ pub settled_stands : (run : OneRun) (h new : HeapState) (course : Course) → On
 settled_stands run h new course stands e whole after within = (
   ap (λ x. option_map_or (run_after run) x run) e,
   record {
-    valid = stands.valid;
     whole = whole.cache;
     calm = whole.calm;
     stands = after;

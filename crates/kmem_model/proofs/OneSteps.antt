@@ -47,7 +47,7 @@ entered_is s t made e = ap (λ x. option_map_or (λ next. next) x s) e
 -- a name is present in the heap exactly where it is in the map
 pub present_is : (s : OneState) (h : HeapState) (name : ℕ) → OneStands s h → is_some (id_of s.map name) ≡ is_some (address_of h name)
 present_is s h name stands =
-    sym (ap (λ xs. is_some (get_or xs name None)) stands.stands.names ∙ (ap is_some (get_or-map_default (option_map (address_in s.addresses)) s.map.names name None) ∙ mapped (id_of s.map name)))
+    sym (ap (λ xs. is_some (get_or xs name None)) stands.stands.paired.names ∙ (ap is_some (get_or-map_default (option_map (address_in s.addresses)) s.map.names name None) ∙ mapped (id_of s.map name)))
   where
     mapped : (x : Option ℕ) → is_some (option_map (address_in s.addresses) x) ≡ is_some x
     mapped None = refl
@@ -94,10 +94,9 @@ plain_step s worker (Fix name) leaves = refl
 plain_step s worker (Loose name) leaves = refl
 
 -- the heap stands for a further map at the same cache
-same_places : (s : OneState) (h new : HeapState) (m : RecordMap) (addresses : List ℕ) → OneStands s h → IsValid m → StandsFor m addresses new → places_of new ≡ places_of h → OneStands (record { map = m; cache = s.cache; addresses = addresses }) new
-same_places s h new m addresses stands valid after places =
+same_places : (s : OneState) (h new : HeapState) (m : RecordMap) (addresses : List ℕ) → OneStands s h → StandsFor m addresses new → places_of new ≡ places_of h → OneStands (record { map = m; cache = s.cache; addresses = addresses }) new
+same_places s h new m addresses stands after places =
     record {
-      valid = valid;
       whole = stands.whole;
       calm = stands.calm;
       stands = after;
@@ -105,13 +104,13 @@ same_places s h new m addresses stands valid after places =
       places = λ b. place_is new b ∙ (ap (λ ps. get_or ps b false) places ∙ (sym (place_is h b) ∙ stands.places b));
     }
 
-pub leaving_ends : (s : OneState) (h new : HeapState) (worker : ℕ) (command : Command) → OneStands s h → leaves_objects command ≡ true → IsInRange s.map worker command → StandsFor (step s.map worker command).map s.addresses new → places_of new ≡ places_of h → OneEnds (one_step s worker command) (step s.map worker command).reply s.cache new
-leaving_ends s h new worker command stands leaves range after places =
+pub leaving_ends : (s : OneState) (h new : HeapState) (worker : ℕ) (command : Command) → OneStands s h → leaves_objects command ≡ true → StandsFor (step s.map worker command).map s.addresses new → places_of new ≡ places_of h → OneEnds (one_step s worker command) (step s.map worker command).reply s.cache new
+leaving_ends s h new worker command stands leaves after places =
     subst (λ made. OneEnds made (step s.map worker command).reply s.cache new) (sym (plain_step s worker command leaves))
     (record {
       replies = refl;
       leaves = refl;
-      stands = same_places s h new (step s.map worker command).map s.addresses stands (step_keeps s.map worker command stands.valid range).valid after places;
+      stands = same_places s h new (step s.map worker command).map s.addresses stands after places;
     })
 
 -- A put of a name that is there
@@ -125,13 +124,13 @@ replaced_step s worker name value there =
     some_not_none (Some x) e = refl
     some_not_none None e = absurd (both_ways false refl e)
 
-pub replaced_ends : (s : OneState) (h new : HeapState) (worker : ℕ) (name : NameId) (value : List ℕ) → OneStands s h → IsInRange s.map worker (Put name value) → is_some (address_of h name.0) ≡ true → StandsFor (step s.map worker (Put name value)).map s.addresses new → places_of new ≡ places_of h → OneEnds (one_step s worker (Put name value)) (step s.map worker (Put name value)).reply s.cache new
-replaced_ends s h new worker name value stands range there after places =
+pub replaced_ends : (s : OneState) (h new : HeapState) (worker : ℕ) (name : NameId) (value : List ℕ) → OneStands s h → is_some (address_of h name.0) ≡ true → StandsFor (step s.map worker (Put name value)).map s.addresses new → places_of new ≡ places_of h → OneEnds (one_step s worker (Put name value)) (step s.map worker (Put name value)).reply s.cache new
+replaced_ends s h new worker name value stands there after places =
     subst (λ made. OneEnds made (step s.map worker (Put name value)).reply s.cache new) (sym (replaced_step s worker name value (present_is s h name.0 stands ∙ there)))
     (record {
       replies = refl;
       leaves = refl;
-      stands = same_places s h new (step s.map worker (Put name value)).map s.addresses stands (step_keeps s.map worker (Put name value) stands.valid range).valid after places;
+      stands = same_places s h new (step s.map worker (Put name value)).map s.addresses stands after places;
     })
 
 -- A put of an absent name
@@ -158,8 +157,8 @@ cache_allocated s b t room at e = cond-false (is_full s.cache) _ _ room ∙ (ap 
 calm_alloc : (s t : CacheState) (b : ℕ) → enter s (entry.Alloc b) ≡ Some t → has_pending s ≡ false → has_pending t ≡ false
 calm_alloc s t b e calm = ap has_pending (sym (then_some_says (may_take s b) (with_out s b) t e).1) ∙ calm
 
-pub made_ends : (s : OneState) (h new : HeapState) (t : CacheState) (worker : ℕ) (name : NameId) (value : List ℕ) (b : ℕ) → OneStands s h → IsInRange s.map worker (Put name value) → address_of h name.0 ≡ None → is_full s.cache ≡ false → enter s.cache (entry.Alloc b) ≡ Some t → b < buffers_of s.cache → object_at h b ≡ None → StandsFor (step s.map worker (Put name value)).map (s.addresses ++ b ∷ []) new → places_of new ≡ set (places_of h) b true → OneEnds (one_step s worker (Put name value)) New t new
-made_ends s h new t worker name value b stands range absent room e below empty after places =
+pub made_ends : (s : OneState) (h new : HeapState) (t : CacheState) (worker : ℕ) (name : NameId) (value : List ℕ) (b : ℕ) → OneStands s h → address_of h name.0 ≡ None → is_full s.cache ≡ false → enter s.cache (entry.Alloc b) ≡ Some t → b < buffers_of s.cache → object_at h b ≡ None → StandsFor (step s.map worker (Put name value)).map (s.addresses ++ b ∷ []) new → places_of new ≡ set (places_of h) b true → OneEnds (one_step s worker (Put name value)) New t new
+made_ends s h new t worker name value b stands absent room e below empty after places =
     let may : is_the (wanted s.cache) b ≡ true = (then_some_says (may_take s.cache b) (with_out s.cache b) t e).0 in
     let at : address_for s ≡ b = address_allocated s b room may in
     let cache : cache_with s ≡ t = cache_allocated s b t room at e in
@@ -169,7 +168,6 @@ made_ends s h new t worker name value b stands range absent room e below empty a
       replies = refl;
       leaves = refl;
       stands = record {
-        valid = (step_keeps s.map worker (Put name value) stands.valid range).valid;
         whole = enter_whole s.cache t (entry.Alloc b) stands.whole e;
         calm = calm_alloc s.cache t b e stands.calm;
         stands = after;
@@ -188,8 +186,8 @@ made_ends s h new t worker name value b stands range absent room e below empty a
         (λ other. get_or-set_other (places_of h) b n true false other ∙ (sym (place_is h n) ∙ (stands.places n ∙ sym (ap (λ x. x || is_out s.cache n) (ne_eqb n b other)))))
         (cases_eq n b)
 
-pub reused_ends : (s : OneState) (h new : HeapState) (worker : ℕ) (name : NameId) (value : List ℕ) (b : ℕ) → OneStands s h → IsInRange s.map worker (Put name value) → address_of h name.0 ≡ None → is_full s.cache ≡ true → least_left_in h ≡ Some b → StandsFor (step s.map worker (Put name value)).map (s.addresses ++ b ∷ []) new → places_of new ≡ places_of h → OneEnds (one_step s worker (Put name value)) New s.cache new
-reused_ends s h new worker name value b stands range absent full left after places =
+pub reused_ends : (s : OneState) (h new : HeapState) (worker : ℕ) (name : NameId) (value : List ℕ) (b : ℕ) → OneStands s h → address_of h name.0 ≡ None → is_full s.cache ≡ true → least_left_in h ≡ Some b → StandsFor (step s.map worker (Put name value)).map (s.addresses ++ b ∷ []) new → places_of new ≡ places_of h → OneEnds (one_step s worker (Put name value)) New s.cache new
+reused_ends s h new worker name value b stands absent full left after places =
     let is_left : least_leftover s ≡ Some b = sym (leftover_same s h stands) ∙ left in
     let at : address_for s ≡ b = address_left s b full is_left in
     let cache : cache_with s ≡ s.cache = cond-true (is_full s.cache) s.cache _ full in
@@ -198,7 +196,7 @@ reused_ends s h new worker name value b stands range absent full left after plac
     (record {
       replies = refl;
       leaves = refl;
-      stands = same_places s h new (step s.map worker (Put name value)).map (s.addresses ++ b ∷ []) stands (step_keeps s.map worker (Put name value) stands.valid range).valid after places;
+      stands = same_places s h new (step s.map worker (Put name value)).map (s.addresses ++ b ∷ []) stands after places;
     })
 
 pub refused_ends : (s : OneState) (h : HeapState) (worker : ℕ) (name : NameId) (value : List ℕ) → OneStands s h → address_of h name.0 ≡ None → is_full s.cache ≡ true → least_left_in h ≡ None → OneEnds (one_step s worker (Put name value)) Full s.cache h
@@ -211,14 +209,14 @@ refused_ends s h worker name value stands absent full none =
 -- A del
 
 -- where the record lives on, or there is none, the cache stays
-pub kept_ends : (s : OneState) (h new : HeapState) (worker : ℕ) (name : NameId) → OneStands s h → IsInRange s.map worker (Del name) → ((id : ℕ) → id_of s.map name.0 ≡ Some id → is_live (step s.map worker (Del name)).map id ≡ true) → StandsFor (step s.map worker (Del name)).map s.addresses new → places_of new ≡ places_of h → OneEnds (one_step s worker (Del name)) (step s.map worker (Del name)).reply s.cache new
-kept_ends s h new worker name stands range lives after places =
+pub kept_ends : (s : OneState) (h new : HeapState) (worker : ℕ) (name : NameId) → OneStands s h → ((id : ℕ) → id_of s.map name.0 ≡ Some id → is_live (step s.map worker (Del name)).map id ≡ true) → StandsFor (step s.map worker (Del name)).map s.addresses new → places_of new ≡ places_of h → OneEnds (one_step s worker (Del name)) (step s.map worker (Del name)).reply s.cache new
+kept_ends s h new worker name stands lives after places =
     subst (λ c. OneEnds (record { reply = (step s.map worker (Del name)).reply; state = record { map = (step s.map worker (Del name)).map; cache = c; addresses = s.addresses } }) (step s.map worker (Del name)).reply s.cache new)
     (sym (stays (id_of s.map name.0) refl))
     (record {
       replies = refl;
       leaves = refl;
-      stands = same_places s h new (step s.map worker (Del name)).map s.addresses stands (step_keeps s.map worker (Del name) stands.valid range).valid after places;
+      stands = same_places s h new (step s.map worker (Del name)).map s.addresses stands after places;
     })
   where
     stays : (id : Option ℕ) → id_of s.map name.0 ≡ id → cache_without s (step s.map worker (Del name)).map id ≡ s.cache
@@ -230,15 +228,14 @@ calm_free : (s t : CacheState) (b : ℕ) → enter s (entry.Free b) ≡ Some t �
 calm_free s t b e calm = ap has_pending (sym (then_some_says (is_out s b) _ t e).1) ∙ calm
 
 -- where it ends, its buffer is freed
-pub ended_ends : (s : OneState) (h new : HeapState) (t : CacheState) (worker : ℕ) (name : NameId) (b : ℕ) → OneStands s h → IsInRange s.map worker (Del name) → address_of h name.0 ≡ Some b → ((id : ℕ) → id_of s.map name.0 ≡ Some id → (is_live (step s.map worker (Del name)).map id ≡ false) × (address_in s.addresses id ≡ b)) → enter s.cache (entry.Free b) ≡ Some t → StandsFor (step s.map worker (Del name)).map s.addresses new → places_of new ≡ set (places_of h) b false → OneEnds (one_step s worker (Del name)) (step s.map worker (Del name)).reply t new
-ended_ends s h new t worker name b stands range there ended e after places =
+pub ended_ends : (s : OneState) (h new : HeapState) (t : CacheState) (worker : ℕ) (name : NameId) (b : ℕ) → OneStands s h → address_of h name.0 ≡ Some b → ((id : ℕ) → id_of s.map name.0 ≡ Some id → (is_live (step s.map worker (Del name)).map id ≡ false) × (address_in s.addresses id ≡ b)) → enter s.cache (entry.Free b) ≡ Some t → StandsFor (step s.map worker (Del name)).map s.addresses new → places_of new ≡ set (places_of h) b false → OneEnds (one_step s worker (Del name)) (step s.map worker (Del name)).reply t new
+ended_ends s h new t worker name b stands there ended e after places =
     subst (λ c. OneEnds (record { reply = (step s.map worker (Del name)).reply; state = record { map = (step s.map worker (Del name)).map; cache = c; addresses = s.addresses } }) (step s.map worker (Del name)).reply t new)
     (sym (freed (id_of s.map name.0) refl (present_is s h name.0 stands ∙ ap is_some there)))
     (record {
       replies = refl;
       leaves = refl;
       stands = record {
-        valid = (step_keeps s.map worker (Del name) stands.valid range).valid;
         whole = enter_whole s.cache t (entry.Free b) stands.whole e;
         calm = calm_free s.cache t b e stands.calm;
         stands = after;
@@ -255,7 +252,7 @@ ended_ends s h new t worker name b stands range there ended e after places =
     buffers = ap buffers_of (sym (entered_is s.cache t (entry.Free b) e)) ∙ entered_buffers_free s.cache b
 
     inside : b < length (places_of h)
-    inside = omega (arith, length-map h.objects is_some, some_within h.objects b (stands.stands.tied.named name.0 b there))
+    inside = omega (arith, length-map h.objects is_some, some_within h.objects b (stands.stands.paired.tied.named name.0 b there))
 
     written : (n : ℕ) → get_or (set (places_of h) b false) n false ≡ (not (n == b) && is_out s.cache n)
     written n =
@@ -288,7 +285,7 @@ unmoved_ends s h worker command stands leaves same =
     (record {
       replies = refl;
       leaves = refl;
-      stands = same_places s h h (step s.map worker command).map s.addresses stands (subst IsValid (sym same) stands.valid) (subst (λ m. StandsFor m s.addresses h) (sym same) stands.stands) refl;
+      stands = same_places s h h (step s.map worker command).map s.addresses stands (subst (λ m. StandsFor m s.addresses h) (sym same) stands.stands) refl;
     })
 
 pub looking_ends : (s : OneState) (h : HeapState) (worker : ℕ) (command : Command) → OneStands s h → only_looks command ≡ true → OneEnds (one_step s worker command) (step s.map worker command).reply s.cache h
@@ -297,7 +294,7 @@ looking_ends s h worker command stands looks = unmoved_ends s h worker command s
 -- the tag of a command on a record that a tag holds
 not_in_use : (s : OneState) (h : HeapState) (place : ℕ) → OneStands s h → hold_at h place ≡ None → held_at s.map place ≡ None
 not_in_use s h place stands e =
-    by_id (held_at s.map place) (sym (ap (λ xs. get_or xs place None) stands.stands.tags ∙ get_or-map_default (option_map (address_in s.addresses)) s.map.tags place None) ∙ e)
+    by_id (held_at s.map place) (sym (ap (λ xs. get_or xs place None) stands.stands.paired.tags ∙ get_or-map_default (option_map (address_in s.addresses)) s.map.tags place None) ∙ e)
   where
     by_id : (x : Option ℕ) → option_map (address_in s.addresses) x ≡ None → x ≡ None
     by_id None e = refl
@@ -358,7 +355,6 @@ none_out slabs chunks limit b =
 pub start_ends : (slabs chunks names : ℕ) (h : HeapState) → 0 < chunks → h.objects ≡ replicate (slabs * chunks) None → StandsFor (no_records names one_workers) [] h → OneStands (one_start slabs chunks names) h
 start_ends slabs chunks names h positive empty stands =
     record {
-      valid = start_valid names one_workers;
       whole = opening_whole slabs chunks one_limit positive (omega arith);
       calm = opening_calm slabs chunks one_limit;
       stands = stands;
@@ -375,7 +371,6 @@ freed_ends s h new t b stands left e after places = (
   entered_is s.cache t (entry.Free b) e,
   subst (λ c. OneStands (record s { cache = c }) new) (sym (entered_is s.cache t (entry.Free b) e))
       (record {
-        valid = stands.valid;
         whole = enter_whole s.cache t (entry.Free b) stands.whole e;
         calm = calm_free s.cache t b e stands.calm;
         stands = after;

@@ -2,7 +2,7 @@
 use Rattle.std.specs.Prelude.{ℕ, ◌≡◌, ◌+◌, ◌==◌, Bool, true, false, List, [], Option, Some, None, is_some, is_none, option_map, option_and_then, map, count_by, length, slice_index_or}
 use Rattle.std.specs.List.{list_any}
 use Rattle.kmem_model.specs.CacheOrder.{is_the}
-use Rattle.kmem_model.specs.Records.{Record, RecordMap, record_at, is_live, live_count}
+use Rattle.kmem_model.specs.Records.{Record, RecordMap, IsValid, record_at, is_live, live_count}
 
 -- an object of a heap
 pub record Object : Type 0 where
@@ -86,8 +86,8 @@ pub record IsTied (h : HeapState) : Type 0 where
 abbrev pub address_in : List ℕ → ℕ → ℕ
 address_in addresses id = slice_index_or addresses id 0
 
--- A heap stands for a record map, where the live ids have these addresses
-pub record StandsFor (m : RecordMap) (addresses : List ℕ) (h : HeapState) : Type 0 where
+-- the live ids of a record map and the addresses of a heap's records are paired, where the ids have these addresses
+pub record IsPaired (m : RecordMap) (addresses : List ℕ) (h : HeapState) : Type 0 where
   pub size : length addresses ≡ length m.records
   -- each name's address is that of its id, and so is each tag's
   pub names : h.names ≡ map (option_map (address_in addresses)) m.names
@@ -100,3 +100,8 @@ pub record StandsFor (m : RecordMap) (addresses : List ℕ) (h : HeapState) : Ty
   pub count : kept_count h ≡ live_count m
   -- back references, hold counts and leftovers
   pub tied : IsTied h
+
+-- A heap stands for a record map, where the live ids have these addresses: the map is valid, and the two are paired
+pub record StandsFor (m : RecordMap) (addresses : List ℕ) (h : HeapState) : Type 0 where
+  pub valid : IsValid m
+  pub paired : IsPaired m addresses h

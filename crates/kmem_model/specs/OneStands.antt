@@ -6,14 +6,12 @@ use Rattle.kmem_text.specs.declared.command.Tag.{Tag}
 use Rattle.kmem_text.specs.declared.command.Reply.{Reply}
 use Rattle.kmem_model.specs.CacheState.{CacheState, is_out, has_pending}
 use Rattle.kmem_model.specs.CacheOrder.{least_below}
-use Rattle.kmem_model.specs.Records.{IsValid}
 use Rattle.kmem_model.specs.Heap.{HeapState, StandsFor, object_at, is_leftover}
 use Rattle.kmem_model.specs.SettleWhole.{IsWhole}
 use Rattle.kmem_model.specs.One.{OneState, OneStep, buffers_of}
 
 -- the heap stands for the map at these addresses, and its objects lie in exactly the buffers that are out
 pub record OneStands (s : OneState) (h : HeapState) : Type 0 where
-  pub valid : IsValid s.map
   pub whole : IsWhole s.cache
   pub calm : has_pending s.cache ≡ false
   pub stands : StandsFor s.map s.addresses h

@@ -6,7 +6,7 @@ ghost use Rattle.kmem_model.specs.CacheEnter.{enter};
 ghost use Rattle.kmem_model.specs.declared.cache_entry.CacheEntry.TheVariants.{Free};
 ghost use Rattle.kmem_model.specs.declared.cache_entry.Said.{Said};
 ghost use Rattle.kmem_model.specs.declared.cache_entry.Said.TheVariants.{Yes, DontNeed};
-ghost use Rattle.kmem_model.specs.Records.{RecordMap, IsValid};
+ghost use Rattle.kmem_model.specs.Records.{RecordMap};
 ghost use Rattle.kmem_model.specs.Heap.{HeapState, StandsFor, object_at, places_of};
 ghost use Rattle.kmem_model.specs.Says.{answer_about, says, heap_after, moved_address, relocated, stage_in, without_object, AreInBuffers};
 ghost use Rattle.kmem_model.specs.Settle.{Course, said_at, says_after};
@@ -49,10 +49,10 @@ pub fn law_one_settle()
 /// A heap stands for the same map after the right answer about a move, whatever map it is. Where that is yes, the object goes to the new
 /// place with all its names, and the records' addresses follow; where it is not needed, the leftover goes.
 pub fn law_relocation()
-    ensures moved { (m : RecordMap) (addresses : List ℕ) (h : HeapState) (old new : ℕ) → IsValid m → StandsFor m addresses h →
+    ensures moved { (m : RecordMap) (addresses : List ℕ) (h : HeapState) (old new : ℕ) → StandsFor m addresses h →
         object_at h new ≡ None → new < length h.objects → says h true old ≡ Yes →
         StandsFor m (map (moved_address old new) addresses) (relocated h old new) }
-    ensures unneeded { (m : RecordMap) (addresses : List ℕ) (h : HeapState) (old : ℕ) → IsValid m → StandsFor m addresses h →
+    ensures unneeded { (m : RecordMap) (addresses : List ℕ) (h : HeapState) (old : ℕ) → StandsFor m addresses h →
         says h true old ≡ DontNeed → StandsFor m addresses (without_object h old) }
 {}
 

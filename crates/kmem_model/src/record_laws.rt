@@ -1,6 +1,6 @@
 //! Laws of the definitions. Each is the contract of a function with an empty body.
 
-ghost use Rattle.std.specs.Prelude.{◌≡◌, ◌≢◌, ◌↔◌, ◌+◌, ◌<◌, All, ◌*◌, ◌==◌, ◌&&◌, ◌||◌, ◌++◌, ◌∷◌, not, true, false, ℕ, List, [], Option, Some, None, is_some, slice_set, replicate, length};
+ghost use Rattle.std.specs.Prelude.{◌≡◌, ◌≢◌, ◌↔◌, ◌+◌, ◌<◌, All, ◌*◌, ◌==◌, ◌&&◌, ◌||◌, ◌++◌, ◌∷◌, not, Bool, true, false, ℕ, List, [], Option, Some, None, is_some, slice_set, replicate, length};
 ghost use Rattle.kmem_text.specs.declared.command.Command.{Command};
 ghost use Rattle.kmem_text.specs.declared.command.Command.TheVariants.{Put, Del, Hold, Drop};
 ghost use Rattle.kmem_text.specs.declared.command.Line.{Line};
@@ -13,7 +13,7 @@ ghost use Rattle.kmem_model.specs.CacheEnter.{is_full, enter};
 ghost use Rattle.kmem_model.specs.declared.cache_entry.CacheEntry.TheVariants.{Alloc, Free};
 ghost use Rattle.kmem_model.specs.SettleWhole.{IsWhole};
 ghost use Rattle.kmem_model.specs.Records.{RecordMap, IsValid, tag_place, id_of, held_at, is_live, live_count, no_records};
-ghost use Rattle.kmem_model.specs.RecordStep.{step, only_looks, leaves_tags, IsInRange, IsValidAs};
+ghost use Rattle.kmem_model.specs.RecordStep.{put_step, del_step, link_step, hold_step, write_step, drop_step, fix_step, step, only_looks, leaves_tags, IsInRange, IsValidAs};
 ghost use Rattle.kmem_model.specs.Heap.{HeapState, StandsFor, object_at, hold_at, address_of, address_in, places_of};
 ghost use Rattle.kmem_model.specs.History.{is_full_due, IsLegalHistory, IsShared, IsFullExactly, replies_of};
 ghost use Rattle.kmem_model.specs.One.{OneState, one_start, one_workers, buffers_of, least_leftover, one_step};
@@ -46,6 +46,17 @@ pub fn law_step()
     ensures start { (names workers : ℕ) → IsValid (no_records names workers) }
     ensures valid { (map : RecordMap) (worker : ℕ) (command : Command) →
         IsValid map → IsInRange map worker command → IsValidAs map (step map worker command).map }
+    // the same, step by step
+    ensures put { (map : RecordMap) (name : ℕ) (value : List ℕ) → IsValid map → name < length map.names →
+        IsValid (put_step map name value (id_of map name)).map }
+    ensures del { (map : RecordMap) (name : ℕ) → IsValid map → IsValid (del_step map name (id_of map name)).map }
+    ensures link { (map : RecordMap) (name other : ℕ) → IsValid map → other < length map.names →
+        IsValid (link_step map other (id_of map name)).map }
+    ensures hold { (map : RecordMap) (place name : ℕ) → IsValid map → place < length map.tags →
+        IsValid (hold_step map place (held_at map place) (id_of map name)).map }
+    ensures write { (map : RecordMap) (value : List ℕ) (held : Option ℕ) → IsValid map → IsValid (write_step map value held).map }
+    ensures drop { (map : RecordMap) (place : ℕ) → IsValid map → IsValid (drop_step map place (held_at map place)).map }
+    ensures fix { (map : RecordMap) (fixed : Bool) (id : Option ℕ) → IsValid map → IsValid (fix_step map fixed id).map }
     ensures tags { (map : RecordMap) (worker : ℕ) (command : Command) →
         leaves_tags command ≡ true → (step map worker command).map.tags ≡ map.tags }
     ensures held { (map : RecordMap) (worker : ℕ) (tag : Tag) (name : NameId) → (step map worker (Hold tag name)).reply ≡ Done →
@@ -97,21 +108,21 @@ pub fn law_one_step()
         OneStands s h → hold_at h (tag_place worker tag) ≡ None → IsOnTag command tag →
         OneEnds (one_step s worker command) Idle s.cache h }
     ensures leaving { (s : OneState) (h new : HeapState) (worker : ℕ) (command : Command) →
-        OneStands s h → leaves_objects command ≡ true → IsInRange s.map worker command →
+        OneStands s h → leaves_objects command ≡ true →
         StandsFor (step s.map worker command).map s.addresses new → places_of new ≡ places_of h →
         OneEnds (one_step s worker command) (step s.map worker command).reply s.cache new }
     ensures replaced { (s : OneState) (h new : HeapState) (worker : ℕ) (name : NameId) (value : List ℕ) →
-        OneStands s h → IsInRange s.map worker (Put name value) → is_some (address_of h name.0) ≡ true →
+        OneStands s h → is_some (address_of h name.0) ≡ true →
         StandsFor (step s.map worker (Put name value)).map s.addresses new → places_of new ≡ places_of h →
         OneEnds (one_step s worker (Put name value)) (step s.map worker (Put name value)).reply s.cache new }
     // a new record in a fresh buffer, in a leftover, and nowhere
     ensures made { (s : OneState) (h new : HeapState) (t : CacheState) (worker : ℕ) (name : NameId) (value : List ℕ) (b : ℕ) →
-        OneStands s h → IsInRange s.map worker (Put name value) → address_of h name.0 ≡ None →
+        OneStands s h → address_of h name.0 ≡ None →
         is_full s.cache ≡ false → enter s.cache (Alloc b) ≡ Some t → b < buffers_of s.cache → object_at h b ≡ None →
         StandsFor (step s.map worker (Put name value)).map (s.addresses ++ b ∷ []) new → places_of new ≡ slice_set (places_of h) b true →
         OneEnds (one_step s worker (Put name value)) New t new }
     ensures reused { (s : OneState) (h new : HeapState) (worker : ℕ) (name : NameId) (value : List ℕ) (b : ℕ) →
-        OneStands s h → IsInRange s.map worker (Put name value) → address_of h name.0 ≡ None →
+        OneStands s h → address_of h name.0 ≡ None →
         is_full s.cache ≡ true → least_left_in h ≡ Some b →
         StandsFor (step s.map worker (Put name value)).map (s.addresses ++ b ∷ []) new → places_of new ≡ places_of h →
         OneEnds (one_step s worker (Put name value)) New s.cache new }
@@ -120,12 +131,12 @@ pub fn law_one_step()
         OneEnds (one_step s worker (Put name value)) Full s.cache h }
     // a del whose record lives on, or that finds none, and one whose record ends
     ensures kept { (s : OneState) (h new : HeapState) (worker : ℕ) (name : NameId) →
-        OneStands s h → IsInRange s.map worker (Del name) →
+        OneStands s h →
         ((id : ℕ) → id_of s.map name.0 ≡ Some id → is_live (step s.map worker (Del name)).map id ≡ true) →
         StandsFor (step s.map worker (Del name)).map s.addresses new → places_of new ≡ places_of h →
         OneEnds (one_step s worker (Del name)) (step s.map worker (Del name)).reply s.cache new }
     ensures ended { (s : OneState) (h new : HeapState) (t : CacheState) (worker : ℕ) (name : NameId) (b : ℕ) →
-        OneStands s h → IsInRange s.map worker (Del name) → address_of h name.0 ≡ Some b →
+        OneStands s h → address_of h name.0 ≡ Some b →
         ((id : ℕ) → id_of s.map name.0 ≡ Some id → (is_live (step s.map worker (Del name)).map id ≡ false) × (address_in s.addresses id ≡ b)) →
         enter s.cache (Free b) ≡ Some t →
         StandsFor (step s.map worker (Del name)).map s.addresses new → places_of new ≡ slice_set (places_of h) b false →
