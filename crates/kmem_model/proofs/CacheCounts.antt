@@ -16,7 +16,7 @@ use Rattle.kmem_model.proofs.PlacesKept.{then_some_says, and_then_says}
 use Rattle.kmem_model.proofs.Outs.{listed_out, freed_out, out_on}
 use Rattle.kmem_model.proofs.SettleMove.{answered_out}
 use Rattle.kmem_model.proofs.SettleFewest.{out_forgotten}
-use Rattle.kmem_model.specs.CacheState.{SlabState, CacheState, no_slab, slab_in_source, slab_at, is_in_source, is_dead, is_listed, used, is_out, is_out_on, move_at, has_pending, out_count, pending_count, opening}
+use Rattle.kmem_model.specs.CacheState.{sizes_of, SlabState, CacheState, no_slab, slab_in_source, slab_at, is_in_source, is_dead, is_listed, used, is_out, is_out_on, move_at, has_pending, out_count, pending_count, opening}
 use Rattle.kmem_model.specs.CacheOrder.{least_below, IsLeastBelow, IsForemost, is_the, is_partial, comes_before, first_partial, least_free, first_partial_free, first_of_slab, wanted, is_idle, chosen, free_number}
 use Rattle.kmem_model.specs.CacheEnter.{unmarked, slab_listed, slab_taken, slab_freed, slab_given_back, slab_answered, on_slab_of, with_out, emptied_goes, freed, all_freed, handed_back, without_move, with_move, with_answer, scan_started, may_take, may_begin, gone, ended, enter}
 use Rattle.kmem_model.specs.CacheHistory.{state_after, entered_all, Follows}
@@ -290,7 +290,7 @@ total-append weight (x ∷ xs) ys = omega (arith, total-append weight xs ys)
 
 -- The opening
 
-opening_out : (slabs chunks limit : ℕ) → out_count (opening slabs chunks limit) ≡ 0
+opening_out : (slabs chunks limit : ℕ) → out_count (opening (sizes_of slabs chunks limit)) ≡ 0
 opening_out slabs chunks limit =
     sum_by-replicate used slabs (slab_in_source chunks)
     ∙ omega (arith, ap (λ n. slabs * n) none)
@@ -298,18 +298,18 @@ opening_out slabs chunks limit =
     none : used (slab_in_source chunks) ≡ 0
     none = sum_by-replicate (λ (x : Bool). cond x 1 0) chunks false ∙ omega arith
 
-opening_pending : (slabs chunks limit : ℕ) → pending_count (opening slabs chunks limit) ≡ 0
+opening_pending : (slabs chunks limit : ℕ) → pending_count (opening (sizes_of slabs chunks limit)) ≡ 0
 opening_pending slabs chunks limit = sum_by-replicate (λ (x : Option PendingMove). cond (is_some x) 1 0) limit None ∙ omega arith
 
-pub history_counts : (slabs chunks limit : ℕ) (history : List (ℕ × CacheEntry)) (s : CacheState) → 0 < chunks → state_after (opening slabs chunks limit) history ≡ Some s →
+pub history_counts : (slabs chunks limit : ℕ) (history : List (ℕ × CacheEntry)) (s : CacheState) → 0 < chunks → state_after (opening (sizes_of slabs chunks limit)) history ≡ Some s →
     out_count s + total made_free (entries_in history) ≡ total made_out (entries_in history)
 history_counts slabs chunks limit history s positive e =
-    omega (arith, opening_out slabs chunks limit, follows_counts (entries_in history) (opening slabs chunks limit) s (opening_kept slabs chunks limit positive) (sym (history_follows history (opening slabs chunks limit)) ∙ e))
+    omega (arith, opening_out slabs chunks limit, follows_counts (entries_in history) (opening (sizes_of slabs chunks limit)) s (opening_kept slabs chunks limit positive) (sym (history_follows history (opening (sizes_of slabs chunks limit))) ∙ e))
 
-pub history_pending : (slabs chunks limit : ℕ) (history : List (ℕ × CacheEntry)) (s : CacheState) → state_after (opening slabs chunks limit) history ≡ Some s →
+pub history_pending : (slabs chunks limit : ℕ) (history : List (ℕ × CacheEntry)) (s : CacheState) → state_after (opening (sizes_of slabs chunks limit)) history ≡ Some s →
     pending_count s + total moves_ended (entries_in history) ≡ total moves_begun (entries_in history)
 history_pending slabs chunks limit history s e =
-    omega (arith, opening_pending slabs chunks limit, follows_pending (entries_in history) (opening slabs chunks limit) s (sym (history_follows history (opening slabs chunks limit)) ∙ e))
+    omega (arith, opening_pending slabs chunks limit, follows_pending (entries_in history) (opening (sizes_of slabs chunks limit)) s (sym (history_follows history (opening (sizes_of slabs chunks limit))) ∙ e))
 
 -- Pass by pass
 

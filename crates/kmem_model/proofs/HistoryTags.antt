@@ -89,20 +89,20 @@ same_place p q t u small low =
 
 -- what an entry makes of a tag
 module _ (m : RecordMap) (workers pass tag : ℕ) (small : tag < 8) (within : pass < workers) (size : length m.tags ≡ 8 * workers) where
-  abbrev place : ℕ
-  place = tag_place (worker_of pass) tag
+  abbrev tag_at : ℕ
+  tag_at = tag_place (worker_of pass) tag
 
-  abbrev before : Bool
-  before = is_some (held_at m place)
+  abbrev was : Bool
+  was = is_some (held_at m tag_at)
 
   abbrev HasNext : ℕ → Command → Reply → List (Option ℕ) → Type 0
-  HasNext who command reply tags = (number : ℕ) → is_some (get_or tags place None) ≡ cond (who == pass) (tag_next tag before (record { number = number; command = command; reply = reply })) before
+  HasNext who command reply tags = (number : ℕ) → is_some (get_or tags tag_at None) ≡ cond (who == pass) (tag_next tag was (record { number = number; command = command; reply = reply })) was
 
   -- where the tags stay, and so does the tag
-  stays_next : (who : ℕ) (command : Command) (reply : Reply) (tags : List (Option ℕ)) → tags ≡ m.tags → ((number : ℕ) → tag_next tag before (record { number = number; command = command; reply = reply }) ≡ before) → HasNext who command reply tags
+  stays_next : (who : ℕ) (command : Command) (reply : Reply) (tags : List (Option ℕ)) → tags ≡ m.tags → ((number : ℕ) → tag_next tag was (record { number = number; command = command; reply = reply }) ≡ was) → HasNext who command reply tags
   stays_next who command reply tags same next number =
-      ap (λ ts. is_some (get_or ts place None)) same
-      ∙ cond_both (who == pass) _ _ (λ b. before ≡ b) (λ mine. sym (next number)) (λ other. refl)
+      ap (λ ts. is_some (get_or ts tag_at None)) same
+      ∙ cond_both (who == pass) _ _ (λ b. was ≡ b) (λ mine. sym (next number)) (λ other. refl)
 
   hold_next : (who t : ℕ) (name : NameId) (reply : Reply) → who < workers → t < 8 → reply ≡ (step m (worker_of who) (Hold t name)).reply → HasNext who (Hold t name) reply (step m (worker_of who) (Hold t name)).map.tags
   hold_next who t name reply below low same = by_done (is_done reply) refl
@@ -112,18 +112,18 @@ module _ (m : RecordMap) (workers pass tag : ℕ) (small : tag < 8) (within : pa
 
       by_done : (b : Bool) → is_done reply ≡ b → HasNext who (Hold t name) reply (step m (worker_of who) (Hold t name)).map.tags
       by_done false unset =
-          stays_next who (Hold t name) reply _ (tag_not_held m (worker_of who) t name (undone unset)) (λ number. undone_next tag before (record { number = number; command = Hold t name; reply = reply }) unset)
+          stays_next who (Hold t name) reply _ (tag_not_held m (worker_of who) t name (undone unset)) (λ number. undone_next tag was (record { number = number; command = Hold t name; reply = reply }) unset)
       by_done true is = λ number.
           let held = tag_held m (worker_of who) t name (sym same ∙ done_says reply is) in
-          ap (λ ts. is_some (get_or ts place None)) held.1
-          ∙ (written_tag m.tags place (tag_place (worker_of who) t) (Some held.0) (omega (arith, size, below, low))
-          ∙ (ap (λ b. cond b true before) (same_place pass who tag t small low)
+          ap (λ ts. is_some (get_or ts tag_at None)) held.1
+          ∙ (written_tag m.tags tag_at (tag_place (worker_of who) t) (Some held.0) (omega (arith, size, below, low))
+          ∙ (ap (λ b. cond b true was) (same_place pass who tag t small low)
           ∙ taken (who == pass) (t == tag) (is_done reply) is))
         where
-          taken : (mine this done : Bool) → done ≡ true → cond (mine && this) true before ≡ cond mine (cond (done && this) true (cond (done && false) false before)) before
+          taken : (mine this done : Bool) → done ≡ true → cond (mine && this) true was ≡ cond mine (cond (done && this) true (cond (done && false) false was)) was
           taken mine this true e = both mine this
             where
-              both : (x y : Bool) → cond (x && y) true before ≡ cond x (cond y true before) before
+              both : (x y : Bool) → cond (x && y) true was ≡ cond x (cond y true was) was
               both true y = refl
               both false y = refl
           taken mine this false e = absurd (false≢true e)
@@ -134,17 +134,17 @@ module _ (m : RecordMap) (workers pass tag : ℕ) (small : tag < 8) (within : pa
       by_held : (x : Option ℕ) → held_at m (tag_place (worker_of who) t) ≡ x → HasNext who (Drop t) reply (step m (worker_of who) (Drop t)).map.tags
       by_held None none =
           stays_next who (Drop t) reply _ (ap (λ y. (drop_step m (tag_place (worker_of who) t) y).map.tags) none)
-          (λ number. undone_next tag before (record { number = number; command = Drop t; reply = reply }) (ap is_done (same ∙ ap (λ y. (drop_step m (tag_place (worker_of who) t) y).reply) none)))
+          (λ number. undone_next tag was (record { number = number; command = Drop t; reply = reply }) (ap is_done (same ∙ ap (λ y. (drop_step m (tag_place (worker_of who) t) y).reply) none)))
       by_held (Some id) there = λ number.
-          ap (λ ts. is_some (get_or ts place None)) (tag_dropped m (worker_of who) t (ap is_some there))
-          ∙ (written_tag m.tags place (tag_place (worker_of who) t) None (omega (arith, size, below, low))
-          ∙ (ap (λ b. cond b false before) (same_place pass who tag t small low)
+          ap (λ ts. is_some (get_or ts tag_at None)) (tag_dropped m (worker_of who) t (ap is_some there))
+          ∙ (written_tag m.tags tag_at (tag_place (worker_of who) t) None (omega (arith, size, below, low))
+          ∙ (ap (λ b. cond b false was) (same_place pass who tag t small low)
           ∙ dropped (who == pass) (t == tag) (is_done reply) (ap is_done (same ∙ ap (λ y. (drop_step m (tag_place (worker_of who) t) y).reply) there))))
         where
-          dropped : (mine this done : Bool) → done ≡ true → cond (mine && this) false before ≡ cond mine (cond (done && false) true (cond (done && this) false before)) before
+          dropped : (mine this done : Bool) → done ≡ true → cond (mine && this) false was ≡ cond mine (cond (done && false) true (cond (done && this) false was)) was
           dropped mine this true e = both mine this
             where
-              both : (x y : Bool) → cond (x && y) false before ≡ cond x (cond y false before) before
+              both : (x y : Bool) → cond (x && y) false was ≡ cond x (cond y false was) was
               both true y = refl
               both false y = refl
           dropped mine this false e = absurd (false≢true e)
@@ -152,24 +152,24 @@ module _ (m : RecordMap) (workers pass tag : ℕ) (small : tag < 8) (within : pa
   step_next : (who : ℕ) (command : Command) (reply : Reply) → who < workers → IsWithinTags command → reply ≡ (step m (worker_of who) command).reply → HasNext who command reply (step m (worker_of who) command).map.tags
   step_next who (Hold t name) reply below tags same = hold_next who t name reply below tags same
   step_next who (Drop t) reply below tags same = drop_next who t reply below tags same
-  step_next who (Put name value) reply below tags same = stays_next who (Put name value) reply _ (tags_stay m (worker_of who) (Put name value) refl) (λ n. leaving_next tag before reply n (Put name value) refl)
-  step_next who (Get name) reply below tags same = stays_next who (Get name) reply _ (tags_stay m (worker_of who) (Get name) refl) (λ n. leaving_next tag before reply n (Get name) refl)
-  step_next who (Del name) reply below tags same = stays_next who (Del name) reply _ (tags_stay m (worker_of who) (Del name) refl) (λ n. leaving_next tag before reply n (Del name) refl)
-  step_next who First reply below tags same = stays_next who First reply _ (tags_stay m (worker_of who) First refl) (λ n. leaving_next tag before reply n First refl)
-  step_next who (Next name) reply below tags same = stays_next who (Next name) reply _ (tags_stay m (worker_of who) (Next name) refl) (λ n. leaving_next tag before reply n (Next name) refl)
-  step_next who Count reply below tags same = stays_next who Count reply _ (tags_stay m (worker_of who) Count refl) (λ n. leaving_next tag before reply n Count refl)
-  step_next who (Link name other) reply below tags same = stays_next who (Link name other) reply _ (tags_stay m (worker_of who) (Link name other) refl) (λ n. leaving_next tag before reply n (Link name other) refl)
-  step_next who (Read t) reply below tags same = stays_next who (Read t) reply _ (tags_stay m (worker_of who) (Read t) refl) (λ n. leaving_next tag before reply n (Read t) refl)
-  step_next who (Write t value) reply below tags same = stays_next who (Write t value) reply _ (tags_stay m (worker_of who) (Write t value) refl) (λ n. leaving_next tag before reply n (Write t value) refl)
-  step_next who (Fix name) reply below tags same = stays_next who (Fix name) reply _ (tags_stay m (worker_of who) (Fix name) refl) (λ n. leaving_next tag before reply n (Fix name) refl)
-  step_next who (Loose name) reply below tags same = stays_next who (Loose name) reply _ (tags_stay m (worker_of who) (Loose name) refl) (λ n. leaving_next tag before reply n (Loose name) refl)
+  step_next who (Put name value) reply below tags same = stays_next who (Put name value) reply _ (tags_stay m (worker_of who) (Put name value) refl) (λ n. leaving_next tag was reply n (Put name value) refl)
+  step_next who (Get name) reply below tags same = stays_next who (Get name) reply _ (tags_stay m (worker_of who) (Get name) refl) (λ n. leaving_next tag was reply n (Get name) refl)
+  step_next who (Del name) reply below tags same = stays_next who (Del name) reply _ (tags_stay m (worker_of who) (Del name) refl) (λ n. leaving_next tag was reply n (Del name) refl)
+  step_next who First reply below tags same = stays_next who First reply _ (tags_stay m (worker_of who) First refl) (λ n. leaving_next tag was reply n First refl)
+  step_next who (Next name) reply below tags same = stays_next who (Next name) reply _ (tags_stay m (worker_of who) (Next name) refl) (λ n. leaving_next tag was reply n (Next name) refl)
+  step_next who Count reply below tags same = stays_next who Count reply _ (tags_stay m (worker_of who) Count refl) (λ n. leaving_next tag was reply n Count refl)
+  step_next who (Link name other) reply below tags same = stays_next who (Link name other) reply _ (tags_stay m (worker_of who) (Link name other) refl) (λ n. leaving_next tag was reply n (Link name other) refl)
+  step_next who (Read t) reply below tags same = stays_next who (Read t) reply _ (tags_stay m (worker_of who) (Read t) refl) (λ n. leaving_next tag was reply n (Read t) refl)
+  step_next who (Write t value) reply below tags same = stays_next who (Write t value) reply _ (tags_stay m (worker_of who) (Write t value) refl) (λ n. leaving_next tag was reply n (Write t value) refl)
+  step_next who (Fix name) reply below tags same = stays_next who (Fix name) reply _ (tags_stay m (worker_of who) (Fix name) refl) (λ n. leaving_next tag was reply n (Fix name) refl)
+  step_next who (Loose name) reply below tags same = stays_next who (Loose name) reply _ (tags_stay m (worker_of who) (Loose name) refl) (λ n. leaving_next tag was reply n (Loose name) refl)
 
-  entry_next : (names : ℕ) (e : ℕ × RecordEntry) → IsRight m e → IsEntryWithin names workers e → is_some (held_at (map_next m e) place) ≡ cond (e.0 == pass) (tag_next tag before e.1) before
+  entry_next : (names : ℕ) (e : ℕ × RecordEntry) → IsRight m e → IsEntryWithin names workers e → is_some (held_at (map_next m e) tag_at) ≡ cond (e.0 == pass) (tag_next tag was e.1) was
   entry_next names e right range =
       ⊎_elim
       (λ left. stays_next e.0 e.1.command e.1.reply (map_next m e).tags (ap (λ (n : RecordMap). n.tags) left.map)
-          (λ number. undone_next tag before (record { number = number; command = e.1.command; reply = e.1.reply }) (ap is_done left.reply)) e.1.number)
-      (λ on. ap (λ (n : RecordMap). is_some (get_or n.tags place None)) on.map ∙ step_next e.0 e.1.command e.1.reply range.pass range.tagged on.reply e.1.number)
+          (λ number. undone_next tag was (record { number = number; command = e.1.command; reply = e.1.reply }) (ap is_done left.reply)) e.1.number)
+      (λ on. ap (λ (n : RecordMap). is_some (get_or n.tags tag_at None)) on.map ∙ step_next e.0 e.1.command e.1.reply range.pass range.tagged on.reply e.1.number)
       (right_is m e right)
 
 -- the number of tags stays

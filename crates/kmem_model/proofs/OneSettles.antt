@@ -78,7 +78,7 @@ answer_is s h b stands = by_object (object_at h b) refl
     by_object (Some o) e = by_id o e (id_at s.map s.addresses b) refl ∙ sym (cond-true (is_out s.cache b) (answer_by s.map (id_at s.map s.addresses b)) DontKnow (sym (stands.places b) ∙ ap is_some e))
 
 -- what a settle works on is the same by the heap and by the map
-pub stage_is : (s : OneState) (h : HeapState) → OneStands s h → stage_in s.cache h ≡ stage_of s
+pub stage_is : (s : OneState) (h : HeapState) → OneStands s h → stage_in s.cache h.objects ≡ stage_of s
 stage_is s h stands =
     ap (λ (given : List Said). record { cache = s.cache; says = given })
     (ext_get_or DontKnow (map answer_about h.objects) (map (answer_at s) (range_with_len 0 (buffers_of s.cache)))
@@ -95,7 +95,7 @@ known_is (Some o) =
     (λ e. cond_both o.fixed _ _ (λ said. is_known said ≡ true) (λ f. refl)
     (λ f. cond_both (nat_lt 0 o.holds) _ _ (λ said. is_known said ≡ true) (λ g. refl) (λ g. refl)))
 
-pub stage_whole : (cache : CacheState) (h : HeapState) → IsWhole cache → has_pending cache ≡ false → AreInBuffers cache h → IsWholeStage (stage_in cache h)
+pub stage_whole : (cache : CacheState) (h : HeapState) → IsWhole cache → has_pending cache ≡ false → AreInBuffers cache h.objects → IsWholeStage (stage_in cache h.objects)
 stage_whole cache h whole calm within =
     record {
       cache = whole;
@@ -105,7 +105,7 @@ stage_whole cache h whole calm within =
     }
 
 -- and where it is whole, the objects lie in the buffers that are out
-pub stage_within : (cache : CacheState) (h : HeapState) → IsWholeStage (stage_in cache h) → AreInBuffers cache h
+pub stage_within : (cache : CacheState) (h : HeapState) → IsWholeStage (stage_in cache h.objects) → AreInBuffers cache h.objects
 stage_within cache h whole =
     record {
       size = sym (length-map h.objects answer_about) ∙ (whole.says ∙ sym whole.cache.asked);
@@ -113,11 +113,11 @@ stage_within cache h whole =
     }
 
 -- what is known lies in the heap
-pub known_within : (cache : CacheState) (h : HeapState) (b : ℕ) → is_known (said_at (stage_in cache h) b) ≡ true → b < length h.objects
+pub known_within : (cache : CacheState) (h : HeapState) (b : ℕ) → is_known (said_at (stage_in cache h.objects) b) ≡ true → b < length h.objects
 known_within cache h b known = omega (arith, reads_within (map answer_about h.objects) b DontKnow is_known refl known, length-map h.objects answer_about)
 
 -- the answer about a buffer is the heap's
-pub said_is : (cache : CacheState) (h : HeapState) (b : ℕ) → said_at (stage_in cache h) b ≡ says h true b
+pub said_is : (cache : CacheState) (h : HeapState) (b : ℕ) → said_at (stage_in cache h.objects) b ≡ says h true b
 said_is cache h b = get_or-map_default answer_about h.objects b None
 
 -- the answers after a move are those of the heap after it
@@ -131,7 +131,7 @@ says_moved h from to DontKnow = refl
 -- A whole settle
 
 -- where the settle of the heap and the cache took this course, the heap stands for what `one` keeps after it
-pub settled_stands : (run : OneRun) (h new : HeapState) (course : Course) → OneStands run.state h → settled (stage_of run.state) ≡ Some course → IsWholeStage course.stage → StandsFor run.state.map (addresses_moved run.state.addresses course.moves) new → AreInBuffers course.stage.cache new → (settled_run run ≡ run_after run course) × OneStands (run_after run course).state new
+pub settled_stands : (run : OneRun) (h new : HeapState) (course : Course) → OneStands run.state h → settled (stage_of run.state) ≡ Some course → IsWholeStage course.stage → StandsFor run.state.map (addresses_moved run.state.addresses course.moves) new → AreInBuffers course.stage.cache new.objects → (settled_run run ≡ run_after run course) × OneStands (run_after run course).state new
 settled_stands run h new course stands e whole after within = (
   ap (λ x. option_map_or (run_after run) x run) e,
   record {

@@ -18,7 +18,7 @@ use Rattle.kmem_model.proofs.RecordsValid.{is_the_some, some_within}
 use Rattle.kmem_model.proofs.SettleWhole.{enter_whole, opening_whole, opening_calm}
 use Rattle.kmem_model.proofs.Heaps.{leftover_same, room_is}
 use Rattle.kmem_model.proofs.Outs.{out_after_alloc, out_after_free}
-use Rattle.kmem_model.specs.CacheState.{CacheState, no_slab, slab_in_source, is_out, is_out_on, has_pending, opening}
+use Rattle.kmem_model.specs.CacheState.{sizes_of, CacheState, no_slab, slab_in_source, is_out, is_out_on, has_pending, opening}
 use Rattle.kmem_model.specs.CacheOrder.{is_the, wanted}
 use Rattle.kmem_model.specs.CacheEnter.{is_full, may_take, with_out, enter}
 use Rattle.kmem_model.specs.declared.cache_entry.CacheEntry.{CacheEntry}
@@ -33,11 +33,11 @@ use Rattle.kmem_model.specs.OneStands.{OneStands, OneEnds, least_left_in, leaves
 -- Reads
 
 -- whether there is an object, by the list of places
-place_is : (h : HeapState) (b : ℕ) → is_some (object_at h b) ≡ get_or (places_of h) b false
+place_is : (h : HeapState) (b : ℕ) → is_some (object_at h b) ≡ get_or (places_of h.objects) b false
 place_is h b = sym (get_or-map_default is_some h.objects b None)
 
 -- as many objects where the places are as many
-sized : (h : HeapState) (places : List Bool) (n : ℕ) → places_of h ≡ places → length places ≡ n → length h.objects ≡ n
+sized : (h : HeapState) (places : List Bool) (n : ℕ) → places_of h.objects ≡ places → length places ≡ n → length h.objects ≡ n
 sized h places n e size = sym (length-map h.objects is_some) ∙ (ap length e ∙ size)
 
 -- the entry that is legal leaves the state that `one` has
@@ -94,17 +94,17 @@ plain_step s worker (Fix name) leaves = refl
 plain_step s worker (Loose name) leaves = refl
 
 -- the heap stands for a further map at the same cache
-same_places : (s : OneState) (h new : HeapState) (m : RecordMap) (addresses : List ℕ) → OneStands s h → StandsFor m addresses new → places_of new ≡ places_of h → OneStands (record { map = m; cache = s.cache; addresses = addresses }) new
+same_places : (s : OneState) (h new : HeapState) (m : RecordMap) (addresses : List ℕ) → OneStands s h → StandsFor m addresses new → places_of new.objects ≡ places_of h.objects → OneStands (record { map = m; cache = s.cache; addresses = addresses }) new
 same_places s h new m addresses stands after places =
     record {
       whole = stands.whole;
       calm = stands.calm;
       stands = after;
-      size = sized new (places_of h) (buffers_of s.cache) places (length-map h.objects is_some ∙ stands.size);
+      size = sized new (places_of h.objects) (buffers_of s.cache) places (length-map h.objects is_some ∙ stands.size);
       places = λ b. place_is new b ∙ (ap (λ ps. get_or ps b false) places ∙ (sym (place_is h b) ∙ stands.places b));
     }
 
-pub leaving_ends : (s : OneState) (h new : HeapState) (worker : ℕ) (command : Command) → OneStands s h → leaves_objects command ≡ true → StandsFor (step s.map worker command).map s.addresses new → places_of new ≡ places_of h → OneEnds (one_step s worker command) (step s.map worker command).reply s.cache new
+pub leaving_ends : (s : OneState) (h new : HeapState) (worker : ℕ) (command : Command) → OneStands s h → leaves_objects command ≡ true → StandsFor (step s.map worker command).map s.addresses new → places_of new.objects ≡ places_of h.objects → OneEnds (one_step s worker command) (step s.map worker command).reply s.cache new
 leaving_ends s h new worker command stands leaves after places =
     subst (λ made. OneEnds made (step s.map worker command).reply s.cache new) (sym (plain_step s worker command leaves))
     (record {
@@ -124,7 +124,7 @@ replaced_step s worker name value there =
     some_not_none (Some x) e = refl
     some_not_none None e = absurd (both_ways false refl e)
 
-pub replaced_ends : (s : OneState) (h new : HeapState) (worker : ℕ) (name : NameId) (value : List ℕ) → OneStands s h → is_some (address_of h name.0) ≡ true → StandsFor (step s.map worker (Put name value)).map s.addresses new → places_of new ≡ places_of h → OneEnds (one_step s worker (Put name value)) (step s.map worker (Put name value)).reply s.cache new
+pub replaced_ends : (s : OneState) (h new : HeapState) (worker : ℕ) (name : NameId) (value : List ℕ) → OneStands s h → is_some (address_of h name.0) ≡ true → StandsFor (step s.map worker (Put name value)).map s.addresses new → places_of new.objects ≡ places_of h.objects → OneEnds (one_step s worker (Put name value)) (step s.map worker (Put name value)).reply s.cache new
 replaced_ends s h new worker name value stands there after places =
     subst (λ made. OneEnds made (step s.map worker (Put name value)).reply s.cache new) (sym (replaced_step s worker name value (present_is s h name.0 stands ∙ there)))
     (record {
@@ -157,7 +157,7 @@ cache_allocated s b t room at e = cond-false (is_full s.cache) _ _ room ∙ (ap 
 calm_alloc : (s t : CacheState) (b : ℕ) → enter s (entry.Alloc b) ≡ Some t → has_pending s ≡ false → has_pending t ≡ false
 calm_alloc s t b e calm = ap has_pending (sym (then_some_says (may_take s b) (with_out s b) t e).1) ∙ calm
 
-pub made_ends : (s : OneState) (h new : HeapState) (t : CacheState) (worker : ℕ) (name : NameId) (value : List ℕ) (b : ℕ) → OneStands s h → address_of h name.0 ≡ None → is_full s.cache ≡ false → enter s.cache (entry.Alloc b) ≡ Some t → b < buffers_of s.cache → object_at h b ≡ None → StandsFor (step s.map worker (Put name value)).map (s.addresses ++ b ∷ []) new → places_of new ≡ set (places_of h) b true → OneEnds (one_step s worker (Put name value)) New t new
+pub made_ends : (s : OneState) (h new : HeapState) (t : CacheState) (worker : ℕ) (name : NameId) (value : List ℕ) (b : ℕ) → OneStands s h → address_of h name.0 ≡ None → is_full s.cache ≡ false → enter s.cache (entry.Alloc b) ≡ Some t → b < buffers_of s.cache → object_at h b ≡ None → StandsFor (step s.map worker (Put name value)).map (s.addresses ++ b ∷ []) new → places_of new.objects ≡ set (places_of h.objects) b true → OneEnds (one_step s worker (Put name value)) New t new
 made_ends s h new t worker name value b stands absent room e below empty after places =
     let may : is_the (wanted s.cache) b ≡ true = (then_some_says (may_take s.cache b) (with_out s.cache b) t e).0 in
     let at : address_for s ≡ b = address_allocated s b room may in
@@ -171,7 +171,7 @@ made_ends s h new t worker name value b stands absent room e below empty after p
         whole = enter_whole s.cache t (entry.Alloc b) stands.whole e;
         calm = calm_alloc s.cache t b e stands.calm;
         stands = after;
-        size = sized new (set (places_of h) b true) (buffers_of t) places (length-set (places_of h) b true ∙ (length-map h.objects is_some ∙ (stands.size ∙ sym (buffers t))));
+        size = sized new (set (places_of h.objects) b true) (buffers_of t) places (length-set (places_of h.objects) b true ∙ (length-map h.objects is_some ∙ (stands.size ∙ sym (buffers t))));
         places = λ n. place_is new n ∙ (ap (λ ps. get_or ps n false) places ∙ (written n ∙ sym (out_after_alloc s.cache t b n stands.whole below e)));
       };
     })
@@ -179,14 +179,14 @@ made_ends s h new t worker name value b stands absent room e below empty after p
     buffers : (u : CacheState) → buffers_of t ≡ buffers_of s.cache
     buffers u = ap buffers_of (sym (entered_is s.cache t (entry.Alloc b) e)) ∙ entered_buffers_alloc s.cache b
 
-    written : (n : ℕ) → get_or (set (places_of h) b true) n false ≡ (n == b || is_out s.cache n)
+    written : (n : ℕ) → get_or (set (places_of h.objects) b true) n false ≡ (n == b || is_out s.cache n)
     written n =
         ⊎_elim
-        (λ same. ap (λ k. get_or (set (places_of h) b true) k false) same ∙ (get_or-set_same (places_of h) b true false (omega (arith, length-map h.objects is_some, stands.size, below)) ∙ sym (ap (λ x. x || is_out s.cache n) (eq-eqb n b same))))
-        (λ other. get_or-set_other (places_of h) b n true false other ∙ (sym (place_is h n) ∙ (stands.places n ∙ sym (ap (λ x. x || is_out s.cache n) (ne_eqb n b other)))))
+        (λ same. ap (λ k. get_or (set (places_of h.objects) b true) k false) same ∙ (get_or-set_same (places_of h.objects) b true false (omega (arith, length-map h.objects is_some, stands.size, below)) ∙ sym (ap (λ x. x || is_out s.cache n) (eq-eqb n b same))))
+        (λ other. get_or-set_other (places_of h.objects) b n true false other ∙ (sym (place_is h n) ∙ (stands.places n ∙ sym (ap (λ x. x || is_out s.cache n) (ne_eqb n b other)))))
         (cases_eq n b)
 
-pub reused_ends : (s : OneState) (h new : HeapState) (worker : ℕ) (name : NameId) (value : List ℕ) (b : ℕ) → OneStands s h → address_of h name.0 ≡ None → is_full s.cache ≡ true → least_left_in h ≡ Some b → StandsFor (step s.map worker (Put name value)).map (s.addresses ++ b ∷ []) new → places_of new ≡ places_of h → OneEnds (one_step s worker (Put name value)) New s.cache new
+pub reused_ends : (s : OneState) (h new : HeapState) (worker : ℕ) (name : NameId) (value : List ℕ) (b : ℕ) → OneStands s h → address_of h name.0 ≡ None → is_full s.cache ≡ true → least_left_in h ≡ Some b → StandsFor (step s.map worker (Put name value)).map (s.addresses ++ b ∷ []) new → places_of new.objects ≡ places_of h.objects → OneEnds (one_step s worker (Put name value)) New s.cache new
 reused_ends s h new worker name value b stands absent full left after places =
     let is_left : least_leftover s ≡ Some b = sym (leftover_same s h stands) ∙ left in
     let at : address_for s ≡ b = address_left s b full is_left in
@@ -209,7 +209,7 @@ refused_ends s h worker name value stands absent full none =
 -- A del
 
 -- where the record lives on, or there is none, the cache stays
-pub kept_ends : (s : OneState) (h new : HeapState) (worker : ℕ) (name : NameId) → OneStands s h → ((id : ℕ) → id_of s.map name.0 ≡ Some id → is_live (step s.map worker (Del name)).map id ≡ true) → StandsFor (step s.map worker (Del name)).map s.addresses new → places_of new ≡ places_of h → OneEnds (one_step s worker (Del name)) (step s.map worker (Del name)).reply s.cache new
+pub kept_ends : (s : OneState) (h new : HeapState) (worker : ℕ) (name : NameId) → OneStands s h → ((id : ℕ) → id_of s.map name.0 ≡ Some id → is_live (step s.map worker (Del name)).map id ≡ true) → StandsFor (step s.map worker (Del name)).map s.addresses new → places_of new.objects ≡ places_of h.objects → OneEnds (one_step s worker (Del name)) (step s.map worker (Del name)).reply s.cache new
 kept_ends s h new worker name stands lives after places =
     subst (λ c. OneEnds (record { reply = (step s.map worker (Del name)).reply; state = record { map = (step s.map worker (Del name)).map; cache = c; addresses = s.addresses } }) (step s.map worker (Del name)).reply s.cache new)
     (sym (stays (id_of s.map name.0) refl))
@@ -228,7 +228,7 @@ calm_free : (s t : CacheState) (b : ℕ) → enter s (entry.Free b) ≡ Some t �
 calm_free s t b e calm = ap has_pending (sym (then_some_says (is_out s b) _ t e).1) ∙ calm
 
 -- where it ends, its buffer is freed
-pub ended_ends : (s : OneState) (h new : HeapState) (t : CacheState) (worker : ℕ) (name : NameId) (b : ℕ) → OneStands s h → address_of h name.0 ≡ Some b → ((id : ℕ) → id_of s.map name.0 ≡ Some id → (is_live (step s.map worker (Del name)).map id ≡ false) × (address_in s.addresses id ≡ b)) → enter s.cache (entry.Free b) ≡ Some t → StandsFor (step s.map worker (Del name)).map s.addresses new → places_of new ≡ set (places_of h) b false → OneEnds (one_step s worker (Del name)) (step s.map worker (Del name)).reply t new
+pub ended_ends : (s : OneState) (h new : HeapState) (t : CacheState) (worker : ℕ) (name : NameId) (b : ℕ) → OneStands s h → address_of h name.0 ≡ Some b → ((id : ℕ) → id_of s.map name.0 ≡ Some id → (is_live (step s.map worker (Del name)).map id ≡ false) × (address_in s.addresses id ≡ b)) → enter s.cache (entry.Free b) ≡ Some t → StandsFor (step s.map worker (Del name)).map s.addresses new → places_of new.objects ≡ set (places_of h.objects) b false → OneEnds (one_step s worker (Del name)) (step s.map worker (Del name)).reply t new
 ended_ends s h new t worker name b stands there ended e after places =
     subst (λ c. OneEnds (record { reply = (step s.map worker (Del name)).reply; state = record { map = (step s.map worker (Del name)).map; cache = c; addresses = s.addresses } }) (step s.map worker (Del name)).reply t new)
     (sym (freed (id_of s.map name.0) refl (present_is s h name.0 stands ∙ ap is_some there)))
@@ -239,7 +239,7 @@ ended_ends s h new t worker name b stands there ended e after places =
         whole = enter_whole s.cache t (entry.Free b) stands.whole e;
         calm = calm_free s.cache t b e stands.calm;
         stands = after;
-        size = sized new (set (places_of h) b false) (buffers_of t) places (length-set (places_of h) b false ∙ (length-map h.objects is_some ∙ (stands.size ∙ sym buffers)));
+        size = sized new (set (places_of h.objects) b false) (buffers_of t) places (length-set (places_of h.objects) b false ∙ (length-map h.objects is_some ∙ (stands.size ∙ sym buffers)));
         places = λ n. place_is new n ∙ (ap (λ ps. get_or ps n false) places ∙ (written n ∙ sym (out_after_free s.cache t b n stands.whole e)));
       };
     })
@@ -251,14 +251,14 @@ ended_ends s h new t worker name b stands there ended e after places =
     buffers : buffers_of t ≡ buffers_of s.cache
     buffers = ap buffers_of (sym (entered_is s.cache t (entry.Free b) e)) ∙ entered_buffers_free s.cache b
 
-    inside : b < length (places_of h)
+    inside : b < length (places_of h.objects)
     inside = omega (arith, length-map h.objects is_some, some_within h.objects b (stands.stands.paired.tied.named name.0 b there))
 
-    written : (n : ℕ) → get_or (set (places_of h) b false) n false ≡ (not (n == b) && is_out s.cache n)
+    written : (n : ℕ) → get_or (set (places_of h.objects) b false) n false ≡ (not (n == b) && is_out s.cache n)
     written n =
         ⊎_elim
-        (λ same. ap (λ k. get_or (set (places_of h) b false) k false) same ∙ (get_or-set_same (places_of h) b false false inside ∙ sym (ap (λ x. not x && is_out s.cache n) (eq-eqb n b same))))
-        (λ other. get_or-set_other (places_of h) b n false false other ∙ (sym (place_is h n) ∙ (stands.places n ∙ sym (ap (λ x. not x && is_out s.cache n) (ne_eqb n b other)))))
+        (λ same. ap (λ k. get_or (set (places_of h.objects) b false) k false) same ∙ (get_or-set_same (places_of h.objects) b false false inside ∙ sym (ap (λ x. not x && is_out s.cache n) (eq-eqb n b same))))
+        (λ other. get_or-set_other (places_of h.objects) b n false false other ∙ (sym (place_is h n) ∙ (stands.places n ∙ sym (ap (λ x. not x && is_out s.cache n) (ne_eqb n b other)))))
         (cases_eq n b)
 
 -- A command that only looks, and one on a tag that isn't in use
@@ -341,7 +341,7 @@ idle_ends s h worker command tag stands none on =
 -- The start
 
 -- no buffer is out of a cache that was just opened
-none_out : (slabs chunks limit b : ℕ) → is_out (opening slabs chunks limit) b ≡ false
+none_out : (slabs chunks limit b : ℕ) → is_out (opening (sizes_of slabs chunks limit)) b ≡ false
 none_out slabs chunks limit b =
     ⊎_elim
     (λ row. ap (λ slab. is_out_on slab (b % chunks)) (get_or-replicate slabs (b / chunks) (slab_in_source chunks) no_slab row) ∙ on_slab (cases_lt (b % chunks) chunks))
@@ -365,7 +365,7 @@ start_ends slabs chunks names h positive empty stands =
 -- A leftover that is freed
 
 -- where the heap's least leftover is freed, the least leftover of `one` is
-pub freed_ends : (s : OneState) (h new : HeapState) (t : CacheState) (b : ℕ) → OneStands s h → least_left_in h ≡ Some b → enter s.cache (entry.Free b) ≡ Some t → StandsFor s.map s.addresses new → places_of new ≡ set (places_of h) b false → (least_leftover s ≡ Some b) × (entered_by s.cache (entry.Free b) ≡ t) × OneStands (record s { cache = entered_by s.cache (entry.Free b) }) new
+pub freed_ends : (s : OneState) (h new : HeapState) (t : CacheState) (b : ℕ) → OneStands s h → least_left_in h ≡ Some b → enter s.cache (entry.Free b) ≡ Some t → StandsFor s.map s.addresses new → places_of new.objects ≡ set (places_of h.objects) b false → (least_leftover s ≡ Some b) × (entered_by s.cache (entry.Free b) ≡ t) × OneStands (record s { cache = entered_by s.cache (entry.Free b) }) new
 freed_ends s h new t b stands left e after places = (
   sym (leftover_same s h stands) ∙ left,
   entered_is s.cache t (entry.Free b) e,
@@ -374,7 +374,7 @@ freed_ends s h new t b stands left e after places = (
         whole = enter_whole s.cache t (entry.Free b) stands.whole e;
         calm = calm_free s.cache t b e stands.calm;
         stands = after;
-        size = sized new (set (places_of h) b false) (buffers_of t) places (length-set (places_of h) b false ∙ (length-map h.objects is_some ∙ (stands.size ∙ sym buffers)));
+        size = sized new (set (places_of h.objects) b false) (buffers_of t) places (length-set (places_of h.objects) b false ∙ (length-map h.objects is_some ∙ (stands.size ∙ sym buffers)));
         places = λ n. place_is new n ∙ (ap (λ ps. get_or ps n false) places ∙ (written n ∙ sym (out_after_free s.cache t b n stands.whole e)));
       }),
 )
@@ -382,14 +382,14 @@ freed_ends s h new t b stands left e after places = (
     buffers : buffers_of t ≡ buffers_of s.cache
     buffers = ap buffers_of (sym (entered_is s.cache t (entry.Free b) e)) ∙ entered_buffers_free s.cache b
 
-    inside : b < length (places_of h)
+    inside : b < length (places_of h.objects)
     inside = omega (arith, length-map h.objects is_some, (least_from_some (length h.objects) (λ n. is_leftover (object_at h n)) b left).below)
 
-    written : (n : ℕ) → get_or (set (places_of h) b false) n false ≡ (not (n == b) && is_out s.cache n)
+    written : (n : ℕ) → get_or (set (places_of h.objects) b false) n false ≡ (not (n == b) && is_out s.cache n)
     written n =
         ⊎_elim
-        (λ same. ap (λ k. get_or (set (places_of h) b false) k false) same ∙ (get_or-set_same (places_of h) b false false inside ∙ sym (ap (λ x. not x && is_out s.cache n) (eq-eqb n b same))))
-        (λ other. get_or-set_other (places_of h) b n false false other ∙ (sym (place_is h n) ∙ (stands.places n ∙ sym (ap (λ x. not x && is_out s.cache n) (ne_eqb n b other)))))
+        (λ same. ap (λ k. get_or (set (places_of h.objects) b false) k false) same ∙ (get_or-set_same (places_of h.objects) b false false inside ∙ sym (ap (λ x. not x && is_out s.cache n) (eq-eqb n b same))))
+        (λ other. get_or-set_other (places_of h.objects) b n false false other ∙ (sym (place_is h n) ∙ (stands.places n ∙ sym (ap (λ x. not x && is_out s.cache n) (ne_eqb n b other)))))
         (cases_eq n b)
 
 -- Tags after a step

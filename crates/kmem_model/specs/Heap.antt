@@ -63,8 +63,8 @@ abbrev pub leftover_count : HeapState → ℕ
 leftover_count h = count_by is_leftover h.objects
 
 -- for each address, whether there is an object
-abbrev pub places_of : HeapState → List Bool
-places_of h = map is_some h.objects
+abbrev pub places_of : List (Option Object) → List Bool
+places_of objects = map is_some objects
 
 -- what an object at this address has to do with the names and tags of its heap
 pub record IsTiedObject (h : HeapState) (b : ℕ) (o : Object) : Type 0 where

@@ -5,7 +5,7 @@ use Rattle.kmem_text.specs.declared.command.Command.{Command}
 use Rattle.kmem_text.specs.declared.command.Command.TheVariants.{Put, Del}
 use Rattle.kmem_text.specs.declared.command.Reply.{Reply}
 use Rattle.kmem_text.specs.declared.command.Reply.TheVariants.{Full}
-use Rattle.kmem_model.specs.CacheState.{CacheState, is_out, opening}
+use Rattle.kmem_model.specs.CacheState.{CacheState, sizes_of, is_out, opening}
 use Rattle.kmem_model.specs.CacheOrder.{least_below, wanted}
 use Rattle.kmem_model.specs.CacheEnter.{is_full, enter}
 use Rattle.kmem_model.specs.declared.cache_entry.CacheEntry.{CacheEntry}
@@ -86,4 +86,4 @@ one_limit = 64
 
 -- before the first command, over so many slabs of so many buffers, with so many names
 abbrev pub one_start : ℕ → ℕ → ℕ → OneState
-one_start slabs chunks names = record { map = no_records names one_workers; cache = opening slabs chunks one_limit; addresses = [] }
+one_start slabs chunks names = record { map = no_records names one_workers; cache = opening (sizes_of slabs chunks one_limit); addresses = [] }

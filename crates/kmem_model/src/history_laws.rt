@@ -7,7 +7,7 @@ ghost use Rattle.kmem_model.specs.declared.cache_entry.CacheEntry.{CacheEntry};
 ghost use Rattle.kmem_model.specs.Records.{RecordMap, no_records, held_at, tag_place};
 ghost use Rattle.kmem_model.specs.History.{worker_of, map_after, IsLegalHistory, IsEntryWithin, in_use, own_entries, IsTaken, has_held, has_fixed};
 ghost use Rattle.kmem_model.specs.OneRun.{is_fixed};
-ghost use Rattle.kmem_model.specs.CacheState.{CacheState, out_count, pending_count};
+ghost use Rattle.kmem_model.specs.CacheState.{CacheSizes, CacheState, out_count, pending_count};
 ghost use Rattle.kmem_model.specs.CacheHistory.{Reaches, Follows, state_after, entered_all};
 ghost use Rattle.kmem_model.specs.CacheCounts.{made_out, made_free, moves_begun, moves_ended, total, total_before, entries_in};
 ghost use Rattle.kmem_model.specs.SettleWhole.{IsWhole};
@@ -37,9 +37,9 @@ pub fn law_taken()
 /// What the entries of a history make out and free adds up to the buffers that are out, and what they begin and end to the moves that are
 /// pending, at the end of a legal history and along any entries that lead from a whole cache.
 pub fn law_counts()
-    ensures out { (slabs chunks limit : ℕ) (history : List (ℕ × CacheEntry)) (s : CacheState) → 0 < chunks → Reaches slabs chunks limit history s →
+    ensures out { (sizes : CacheSizes) (history : List (ℕ × CacheEntry)) (s : CacheState) → 0 < sizes.chunks → Reaches sizes history s →
         out_count s + total made_free (entries_in history) ≡ total made_out (entries_in history) }
-    ensures pending { (slabs chunks limit : ℕ) (history : List (ℕ × CacheEntry)) (s : CacheState) → Reaches slabs chunks limit history s →
+    ensures pending { (sizes : CacheSizes) (history : List (ℕ × CacheEntry)) (s : CacheState) → Reaches sizes history s →
         pending_count s + total moves_ended (entries_in history) ≡ total moves_begun (entries_in history) }
     ensures out_along { (s t : CacheState) (entries : List CacheEntry) → IsWhole s → Follows s entries t →
         out_count t + total made_free entries ≡ out_count s + total made_out entries }

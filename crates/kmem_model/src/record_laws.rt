@@ -109,22 +109,22 @@ pub fn law_one_step()
         OneEnds (one_step s worker command) Idle s.cache h }
     ensures leaving { (s : OneState) (h new : HeapState) (worker : ℕ) (command : Command) →
         OneStands s h → leaves_objects command ≡ true →
-        StandsFor (step s.map worker command).map s.addresses new → places_of new ≡ places_of h →
+        StandsFor (step s.map worker command).map s.addresses new → places_of new.objects ≡ places_of h.objects →
         OneEnds (one_step s worker command) (step s.map worker command).reply s.cache new }
     ensures replaced { (s : OneState) (h new : HeapState) (worker : ℕ) (name : NameId) (value : List ℕ) →
         OneStands s h → is_some (address_of h name.0) ≡ true →
-        StandsFor (step s.map worker (Put name value)).map s.addresses new → places_of new ≡ places_of h →
+        StandsFor (step s.map worker (Put name value)).map s.addresses new → places_of new.objects ≡ places_of h.objects →
         OneEnds (one_step s worker (Put name value)) (step s.map worker (Put name value)).reply s.cache new }
     // a new record in a fresh buffer, in a leftover, and nowhere
     ensures made { (s : OneState) (h new : HeapState) (t : CacheState) (worker : ℕ) (name : NameId) (value : List ℕ) (b : ℕ) →
         OneStands s h → address_of h name.0 ≡ None →
         is_full s.cache ≡ false → enter s.cache (Alloc b) ≡ Some t → b < buffers_of s.cache → object_at h b ≡ None →
-        StandsFor (step s.map worker (Put name value)).map (s.addresses ++ b ∷ []) new → places_of new ≡ slice_set (places_of h) b true →
+        StandsFor (step s.map worker (Put name value)).map (s.addresses ++ b ∷ []) new → places_of new.objects ≡ slice_set (places_of h.objects) b true →
         OneEnds (one_step s worker (Put name value)) New t new }
     ensures reused { (s : OneState) (h new : HeapState) (worker : ℕ) (name : NameId) (value : List ℕ) (b : ℕ) →
         OneStands s h → address_of h name.0 ≡ None →
         is_full s.cache ≡ true → least_left_in h ≡ Some b →
-        StandsFor (step s.map worker (Put name value)).map (s.addresses ++ b ∷ []) new → places_of new ≡ places_of h →
+        StandsFor (step s.map worker (Put name value)).map (s.addresses ++ b ∷ []) new → places_of new.objects ≡ places_of h.objects →
         OneEnds (one_step s worker (Put name value)) New s.cache new }
     ensures refused { (s : OneState) (h : HeapState) (worker : ℕ) (name : NameId) (value : List ℕ) →
         OneStands s h → address_of h name.0 ≡ None → is_full s.cache ≡ true → least_left_in h ≡ None →
@@ -133,13 +133,13 @@ pub fn law_one_step()
     ensures kept { (s : OneState) (h new : HeapState) (worker : ℕ) (name : NameId) →
         OneStands s h →
         ((id : ℕ) → id_of s.map name.0 ≡ Some id → is_live (step s.map worker (Del name)).map id ≡ true) →
-        StandsFor (step s.map worker (Del name)).map s.addresses new → places_of new ≡ places_of h →
+        StandsFor (step s.map worker (Del name)).map s.addresses new → places_of new.objects ≡ places_of h.objects →
         OneEnds (one_step s worker (Del name)) (step s.map worker (Del name)).reply s.cache new }
     ensures ended { (s : OneState) (h new : HeapState) (t : CacheState) (worker : ℕ) (name : NameId) (b : ℕ) →
         OneStands s h → address_of h name.0 ≡ Some b →
         ((id : ℕ) → id_of s.map name.0 ≡ Some id → (is_live (step s.map worker (Del name)).map id ≡ false) × (address_in s.addresses id ≡ b)) →
         enter s.cache (Free b) ≡ Some t →
-        StandsFor (step s.map worker (Del name)).map s.addresses new → places_of new ≡ slice_set (places_of h) b false →
+        StandsFor (step s.map worker (Del name)).map s.addresses new → places_of new.objects ≡ slice_set (places_of h.objects) b false →
         OneEnds (one_step s worker (Del name)) (step s.map worker (Del name)).reply t new }
 {}
 

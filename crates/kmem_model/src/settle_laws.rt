@@ -6,10 +6,10 @@ ghost use Rattle.kmem_model.specs.declared.cache_entry.Said.{Said};
 ghost use Rattle.kmem_model.specs.declared.cache_entry.Said.TheVariants.{Yes, No, Later, DontKnow};
 ghost use Rattle.kmem_model.specs.declared.cache_entry.CacheEntry.{CacheEntry};
 ghost use Rattle.kmem_model.specs.declared.cache_entry.CacheEntry.TheVariants.{Scan, Begin, End, Forget};
-ghost use Rattle.kmem_model.specs.CacheState.{SlabState, CacheState, is_out, opening};
+ghost use Rattle.kmem_model.specs.CacheState.{CacheSizes, SlabState, CacheState, is_out, opening};
 ghost use Rattle.kmem_model.specs.CacheOrder.{is_idle};
 ghost use Rattle.kmem_model.specs.CacheEnter.{enter};
-ghost use Rattle.kmem_model.specs.CacheHistory.{IsLegal, Reaches};
+ghost use Rattle.kmem_model.specs.CacheHistory.{MayEnter, Reaches};
 ghost use Rattle.kmem_model.specs.SettleEntries.{moves_entries, AreEntriesOf};
 ghost use Rattle.kmem_model.specs.Report.{is_end_by, is_gone_entry};
 ghost use Rattle.kmem_model.specs.Settle.{Stage, EndedMove, Course, said_at, moved, scanned, is_rest_marked, is_done, with_scan, settled_in};
@@ -22,11 +22,11 @@ ghost use Rattle.kmem_model.specs.SettleTurns.{with_cache, course_at, course_mov
 /// A cache is whole at its opening, as a stage beside a client that knows no object. Every entry keeps it whole,
 /// also while moves are pending; so every state that a legal history reaches is whole.
 pub fn law_whole()
-    ensures opening { (slabs chunks limit : ℕ) → 0 < chunks → 0 < limit →
-        IsWholeStage (record { cache = opening slabs chunks limit; says = replicate (slabs * chunks) DontKnow }) }
+    ensures opening { (sizes : CacheSizes) → 0 < sizes.chunks → 0 < sizes.limit →
+        IsWholeStage (record { cache = opening sizes; says = replicate (sizes.slabs * sizes.chunks) DontKnow }) }
     ensures kept { (s t : CacheState) (entry : CacheEntry) → IsWhole s → enter s entry ≡ Some t → IsWhole t }
-    ensures reached { (slabs chunks limit : ℕ) (history : List (ℕ × CacheEntry)) (s : CacheState) → 0 < chunks → 0 < limit →
-        Reaches slabs chunks limit history s → IsWhole s }
+    ensures reached { (sizes : CacheSizes) (history : List (ℕ × CacheEntry)) (s : CacheState) → 0 < sizes.chunks → 0 < sizes.limit →
+        Reaches sizes history s → IsWhole s }
 {}
 
 /// Settle ends: scans enough are made in each whole stage. Whatever number is allowed, what it leaves is whole
@@ -54,7 +54,7 @@ pub fn law_moves()
     // The old buffer stays out, the client knows the object there, and each of its answers may end the move.
     ensures begun { (stage : Stage) (j from to : ℕ) (cache : CacheState) → IsWholeStage stage →
         enter stage.cache (Begin j from to) ≡ Some cache →
-        (is_out cache from ≡ true) × (is_known (said_at stage from) ≡ true) × ((said : Said) → IsLegal cache (End j said)) }
+        (is_out cache from ≡ true) × (is_known (said_at stage from) ≡ true) × ((said : Said) → MayEnter cache (End j said)) }
     ensures ended { (course : Course) (j from to : ℕ) (begun ended : CacheState) → IsWholeStage course.stage →
         enter course.stage.cache (Begin j from to) ≡ Some begun →
         enter begun (End j (said_at course.stage from)) ≡ Some ended →

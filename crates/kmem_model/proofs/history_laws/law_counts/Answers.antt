@@ -3,10 +3,10 @@ use Rattle.kmem_model.proofs.CacheCounts.{history_counts, history_pending, follo
 use Rattle.kmem_model.proofs.history_laws.law_counts.Goals as goal
 
 pub returns-clause-out : goal.returns-clause-out
-returns-clause-out c = λ slabs chunks limit history s positive e. history_counts slabs chunks limit history s positive e
+returns-clause-out c = λ sizes history s positive e. history_counts sizes.slabs sizes.chunks sizes.limit history s positive e
 
 pub returns-clause-pending : goal.returns-clause-pending
-returns-clause-pending c = λ slabs chunks limit history s e. history_pending slabs chunks limit history s e
+returns-clause-pending c = λ sizes history s e. history_pending sizes.slabs sizes.chunks sizes.limit history s e
 
 pub returns-clause-out_along : goal.returns-clause-out_along
 returns-clause-out_along c = λ s t entries whole e. follows_counts entries s t (whole_kept s whole) e
