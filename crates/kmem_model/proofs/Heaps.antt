@@ -13,10 +13,10 @@ use Rattle.kmem_model.specs.CacheState.{CacheState, SlabState, no_slab, slab_at,
 use Rattle.kmem_model.specs.CacheOrder.{least_below, is_the}
 use Rattle.kmem_model.specs.CacheEnter.{is_full}
 use Rattle.kmem_model.specs.Records.{RecordMap, is_live, id_of, held_at, live_count, IsValid}
-use Rattle.kmem_model.specs.Heap.{Object, HeapState, object_at, address_of, hold_at, record_of, has_record, is_leftover, address_in, IsTiedObject, IsPaired}
+use Rattle.kmem_model.specs.Heap.{least_left_in, Object, HeapState, object_at, address_of, hold_at, record_of, has_record, is_leftover, address_in, IsTiedObject, IsPaired}
 use Rattle.kmem_model.specs.SettleWhole.{IsWhole, IsWholeSlab}
 use Rattle.kmem_model.specs.One.{OneState, buffers_of, id_at, least_leftover, has_no_room}
-use Rattle.kmem_model.specs.OneStands.{OneStands, least_left_in}
+use Rattle.kmem_model.specs.OneStands.{OneStands}
 
 -- Counts and searches
 

@@ -25,10 +25,10 @@ use Rattle.kmem_model.specs.declared.cache_entry.CacheEntry.{CacheEntry}
 use Rattle.kmem_model.specs.declared.cache_entry.CacheEntry.TheVariants as entry
 use Rattle.kmem_model.specs.Records.{RecordMap, id_of, held_at, is_live, live_count, tag_place, no_records, IsValid}
 use Rattle.kmem_model.specs.RecordStep.{put_step, read_step, write_step, drop_step, step, only_looks, leaves_tags, IsInRange}
-use Rattle.kmem_model.specs.Heap.{Object, HeapState, StandsFor, hold_at, object_at, address_of, address_in, places_of, has_record, is_leftover}
+use Rattle.kmem_model.specs.Heap.{least_left_in, Object, HeapState, StandsFor, hold_at, object_at, address_of, address_in, places_of, has_record, is_leftover}
 use Rattle.kmem_model.specs.History.{is_put_of_absent, is_full_due}
 use Rattle.kmem_model.specs.One.{OneState, OneStep, buffers_of, entered_by, least_leftover, address_for, cache_with, cache_without, placed_step, has_no_room, is_refused, one_step, one_start, one_workers, one_limit}
-use Rattle.kmem_model.specs.OneStands.{OneStands, OneEnds, least_left_in, leaves_objects, IsOnTag}
+use Rattle.kmem_model.specs.OneStands.{OneStands, OneEnds, leaves_objects, IsOnTag}
 
 -- Reads
 

@@ -1,7 +1,7 @@
 -- A heap of objects found by address, and when it stands for a record map (this project's own rule).
 use Rattle.std.specs.Prelude.{ℕ, ◌≡◌, ◌+◌, ◌==◌, Bool, true, false, List, [], Option, Some, None, is_some, is_none, option_map, option_and_then, map, count_by, length, slice_index_or}
 use Rattle.std.specs.List.{list_any}
-use Rattle.kmem_model.specs.CacheOrder.{is_the}
+use Rattle.kmem_model.specs.CacheOrder.{is_the, least_below}
 use Rattle.kmem_model.specs.Records.{Record, RecordMap, IsValid, record_at, is_live, live_count}
 
 -- an object of a heap
@@ -61,6 +61,10 @@ kept_count h = count_by has_record h.objects
 -- how many objects are leftovers
 abbrev pub leftover_count : HeapState → ℕ
 leftover_count h = count_by is_leftover h.objects
+
+-- the least address of a leftover
+abbrev pub least_left_in : HeapState → Option ℕ
+least_left_in h = least_below (length h.objects) (λ b. is_leftover (object_at h b))
 
 -- for each address, whether there is an object
 abbrev pub places_of : List (Option Object) → List Bool

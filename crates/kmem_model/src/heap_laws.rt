@@ -7,13 +7,13 @@ ghost use Rattle.kmem_model.specs.declared.cache_entry.CacheEntry.TheVariants.{F
 ghost use Rattle.kmem_model.specs.declared.cache_entry.Said.{Said};
 ghost use Rattle.kmem_model.specs.declared.cache_entry.Said.TheVariants.{Yes, DontNeed};
 ghost use Rattle.kmem_model.specs.Records.{RecordMap};
-ghost use Rattle.kmem_model.specs.Heap.{HeapState, StandsFor, object_at, places_of};
+ghost use Rattle.kmem_model.specs.Heap.{least_left_in, HeapState, StandsFor, object_at, places_of};
 ghost use Rattle.kmem_model.specs.Says.{answer_about, says, heap_after, moved_address, relocated, stage_in, without_object, AreInBuffers};
 ghost use Rattle.kmem_model.specs.Settle.{Course, said_at, says_after};
 ghost use Rattle.kmem_model.specs.SettleWhole.{IsWhole, IsWholeStage, is_known};
 ghost use Rattle.kmem_model.specs.SettleMeasure.{settled};
 ghost use Rattle.kmem_model.specs.One.{OneState, least_leftover, entered_by};
-ghost use Rattle.kmem_model.specs.OneStands.{OneStands, least_left_in};
+ghost use Rattle.kmem_model.specs.OneStands.{OneStands};
 ghost use Rattle.kmem_model.specs.OneRun.{OneRun, answer_at, stage_of, addresses_moved, run_after, settled_run, without_leftover};
 
 /// What a settle works on, by a heap whose objects lie in the buffers of a cache.

@@ -14,11 +14,11 @@ ghost use Rattle.kmem_model.specs.declared.cache_entry.CacheEntry.TheVariants.{A
 ghost use Rattle.kmem_model.specs.SettleWhole.{IsWhole};
 ghost use Rattle.kmem_model.specs.Records.{RecordMap, IsValid, tag_place, id_of, held_at, is_live, live_count, no_records};
 ghost use Rattle.kmem_model.specs.RecordStep.{put_step, del_step, link_step, hold_step, write_step, drop_step, fix_step, step, only_looks, leaves_tags, IsInRange, IsValidAs};
-ghost use Rattle.kmem_model.specs.Heap.{HeapState, StandsFor, object_at, hold_at, address_of, address_in, places_of};
+ghost use Rattle.kmem_model.specs.Heap.{least_left_in, HeapState, StandsFor, object_at, hold_at, address_of, address_in, places_of};
 ghost use Rattle.kmem_model.specs.History.{is_full_due, IsLegalHistory, IsShared, IsFullExactly, replies_of};
 ghost use Rattle.kmem_model.specs.One.{OneState, one_start, one_workers, buffers_of, least_leftover, one_step};
 ghost use Rattle.kmem_model.specs.OneRun.{OneRun, run_start, line_run, replies, history_of};
-ghost use Rattle.kmem_model.specs.OneStands.{OneStands, OneEnds, IsOnTag, least_left_in, leaves_objects};
+ghost use Rattle.kmem_model.specs.OneStands.{OneStands, OneEnds, IsOnTag, leaves_objects};
 
 /// What `one` replies is a legal history that is shared by the workers of the lines, for all slabs and buffers, any number of names, all
 /// settles and all lines of workers that count from 1.
