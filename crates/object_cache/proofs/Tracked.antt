@@ -5,10 +5,10 @@ use Rattle.std.proofs.lemmas.List.{length-replicate, get_or-replicate, get_or-se
 use Rattle.std.proofs.lemmas.Bool.{both_ways, cases_eq, ne_eqb}
 use Rattle.std.proofs.lemmas.List.Folds.{sum_by-replicate}
 use Rattle.std.proofs.lemmas.List.Sums.{count_by-le-length}
-use Rattle.kmem_buf.specs.Stubs.{StubState}
+use Rattle.kmem_buf.specs.Stubs.{StubState, AreUnissued}
 use Rattle.kmem_model.specs.CacheOrder.{is_of_move}
 use Rattle.kmem_model.specs.declared.cache_state.PendingMove.{PendingMove}
-use Rattle.object_cache.specs.Moves.{AreTracked, AreFree, AreWithin, IsStubOf, IsWithin, is_left_out_of}
+use Rattle.object_cache.specs.Moves.{AreTracked, AreWithin, IsStubOf, IsWithin, is_left_out_of}
 use Rattle.object_cache.proofs.Lists.{or_false, any-set_same, any-set_more, count-set, two_set}
 
 no_moves : ℕ → List (Option PendingMove)
@@ -23,7 +23,7 @@ unfolding no_moves
 none_of_move b zero = refl
 none_of_move b (suc n) = none_of_move b n
 
-pub start : (stubs : List StubState) (limit buffers : ℕ) → length stubs ≡ limit → AreFree stubs → limit < 2 ^ 32 →
+pub start : (stubs : List StubState) (limit buffers : ℕ) → length stubs ≡ limit → AreUnissued stubs → limit < 2 ^ 32 →
     AreTracked stubs (replicate limit None) (replicate buffers false) (replicate buffers false) 0
 unfolding no_moves
 start stubs limit buffers as_many free few =

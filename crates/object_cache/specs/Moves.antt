@@ -85,7 +85,3 @@ pub record AreTracked (stubs : List StubState) (pending : List (Option PendingMo
   pub counted : count ≡ count_by is_some pending
   pub as_many : length skip ≡ length asked
   pub left_out : (b : ℕ) → slice_index_or skip b false ≡ is_left_out_of asked pending b
-
--- none of these stubs is issued
-abbrev pub AreFree : List StubState → Type 0
-AreFree stubs = (j : ℕ) (d : StubState) → j < length stubs → (slice_index_or stubs j d).issued ≡ false

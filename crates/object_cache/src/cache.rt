@@ -112,6 +112,12 @@ impl<K: Kind> ObjectCache<K> {
         })
     }
 
+    /// The kind, for tests to look at.
+    #[cfg(test)]
+    pub fn kind(&self) -> &K {
+        &self.kind
+    }
+
     /// Names this cache's cells, and the stubs of its moves.
     pub fn home(&self) -> Home
         ensures { result ≡ self.now.home }

@@ -3,7 +3,7 @@ ghost use Rattle.std.specs.Prelude.{◌≡◌, ◌<◌, ℕ, Some, true, false, 
 ghost use Rattle.std.specs.List.{list_any};
 ghost use Rattle.kmem_buf.specs.Homes.{stub_homes};
 ghost use Rattle.kmem_model.specs.CacheOrder.{is_of_move, least_below};
-ghost use Rattle.object_cache.specs.Moves.{AreFree, AreWithin, IsMoveOf, IsPending, is_left_out_of};
+ghost use Rattle.object_cache.specs.Moves.{AreWithin, IsMoveOf, IsPending, is_left_out_of};
 
 use kmem_buf::{Buffer, Kind, Slip, Stub};
 use kmem_model::{PendingMove, law_order};
@@ -55,6 +55,14 @@ impl<X> Model for Begun<X> {
 }
 
 impl<X> Begun<X> {
+    /// The number of the move.
+    pub fn no(&self) -> u64
+        ensures { result ≡ self.now.move.no }
+    {
+        let pending = &self.pending;
+        pending.no
+    }
+
     /// The number of the old buffer.
     pub fn from(&self) -> u32
         ensures { result ≡ self.now.move.from }
@@ -87,10 +95,25 @@ impl<X> Begun<X> {
 }
 
 impl Pending {
+    /// The number of the move: the least that no pending move had.
+    pub fn no(&self) -> u64
+        ensures { result ≡ self.now.no }
+    {
+        self.no
+    }
+
+    /// The number of the old buffer.
     pub fn from(&self) -> u32
         ensures { result ≡ self.now.from }
     {
         self.from
+    }
+
+    /// The number of the new buffer.
+    pub fn to(&self) -> u32
+        ensures { result ≡ self.now.to }
+    {
+        self.to
     }
 }
 
@@ -124,7 +147,7 @@ impl Moves {
         ensures stubs { IfOk result (λ m. length m.stubs ≡ limit) }
     {
         Ok(Moves {
-            stubs: stubs(alloc, limit)?,
+            stubs: Stub::create_all(alloc, limit)?,
             pending: Vec::from_elem(alloc, None, limit as usize)?,
             count: 0,
             asked: Vec::from_elem(alloc, false, buffers as usize)?,
@@ -240,18 +263,6 @@ impl Moves {
         self.skip[from as usize] = is_left_out(&self.asked, &self.pending, from);
         self.skip[to as usize] = is_left_out(&self.asked, &self.pending, to);
     }
-}
-
-// Stubs that are not issued.
-fn stubs(alloc: Global, count: u32) -> Result<Vec<Stub>, AllocError>
-    ensures count { IfOk result (λ stubs. length stubs.items ≡ count) }
-    ensures free { IfOk result (λ stubs. AreFree stubs.items) }
-{
-    let mut stubs = Vec::with_capacity(alloc, count as usize)?;
-    for _ in 0..count {
-        stubs.push(Stub::create(alloc)?)?;
-    }
-    Ok(stubs)
 }
 
 fn clear(flags: &mut [bool])

@@ -6,7 +6,7 @@ ghost use Rattle.kmem_model.specs.CacheState.{slab_at, slab_in_source, is_listed
 ghost use Rattle.kmem_model.specs.CacheOrder.{wanted, first_partial_free};
 ghost use Rattle.kmem_model.specs.CacheEnter.{is_full, slab_taken, slab_freed, slab_listed, slab_answered, slab_given_back, unmarked};
 ghost use Rattle.slab_list.specs.Slabs.{IsFree, is_out_in, on_slab, on_buffer, fresh_slab};
-ghost use Rattle.object_cache.specs.Modes.{said_of};
+ghost use Rattle.kmem_answers.specs.Words.{said_of};
 ghost use Rattle.object_cache.specs.Stock.{bare, AreHeld, OthersAreUsed, IsStocked, IsRoom, emptied_to, slab_closed};
 
 use kmem_buf::{Buf, Buffer, Kind, Verdict};

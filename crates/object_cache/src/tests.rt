@@ -4,22 +4,24 @@ ghost use Rattle.kmem_buf.specs.Homes.{Homes};
 ghost use Rattle.object_cache.specs.Moves.{IsJobOf};
 ghost use Rattle.object_cache.specs.Bench.{AreOut, IsOutAt};
 
-use crate::{AllocRefused, BeginRefused, Job, ObjectCache};
+use crate::{AllocRefused, BeginRefused, Job, ObjectCache, SlabLine};
 use kmem_buf::{Answer, Buf, Kind, Verdict};
 use slab_source::Supply;
 use std::alloc::{AllocError, Global};
 use std::marker::Model;
 use std::mem::replace;
 use std::test::Fail;
+use std::thread::{Threads, join};
 
 mod moves;
 mod slabs;
 
-// Its objects are constructed at 0. It refuses at its call of one number, counted from 1.
+// Its objects are constructed at 0. It refuses at its call of one number, counted from 1, and counts what it destructs.
 #[derive(Drop)]
 struct Counters {
     calls: u32,
     refused_at: u32,
+    destructed: u32,
 }
 
 impl Kind for Counters {
@@ -39,7 +41,9 @@ impl Kind for Counters {
         Ok(0)
     }
 
-    fn destruct(&mut self, _object: u64) {}
+    fn destruct(&mut self, _object: u64) {
+        self.destructed = self.destructed.saturating_add(1);
+    }
 }
 
 // A cache, what it gave out, by number, and the moves that it began.
@@ -82,6 +86,7 @@ impl Bench {
         let kind = Counters {
             calls: 0,
             refused_at,
+            destructed: 0,
         };
         let supply = Supply::create(alloc, slabs)?;
         let mut out = Vec::new(alloc);
@@ -126,6 +131,21 @@ impl Bench {
             out: self.cache.out_count(),
             pending: self.cache.pending_count(),
             dead: self.cache.dead_count(),
+        }
+    }
+
+    // How many objects reached the kind's destruct.
+    fn destructed(&self) -> u32 {
+        let kind = self.cache.kind();
+        kind.destructed
+    }
+
+    // What the slab shows, if there is one of this number.
+    fn line(&self, slab: u32) -> Option<SlabLine> {
+        if slab < self.cache.slabs() {
+            self.cache.line(slab)
+        } else {
+            None
         }
     }
 
@@ -196,4 +216,31 @@ fn take_out(out: &mut Vec<Option<Buf<Counters>>>, number: u32) -> Option<Buf<Cou
         return None;
     }
     replace(&mut out[number as usize], None)
+}
+
+// Another thread ends the first move that was begun. What it has are a cache, buffers and jobs of one kind.
+fn ended_elsewhere<R: Threads>(rt: &R, mut bench: Bench) -> (Bench, bool) {
+    let (back, ()) = join(
+        rt,
+        move || {
+            let was_asked = bench.end(0, Verdict::No);
+            (bench, was_asked)
+        },
+        || (),
+    );
+    back
+}
+
+#[test]
+fn a_cache_crosses_threads(rt: HostRuntime) -> Result<(), Fail> {
+    let mut bench = Bench::create(rt.alloc(), 2, 2, 0)?;
+    for number in 0..3 {
+        assert_eq!(rt; bench.alloc(), Ok(number));
+    }
+    bench.free(1);
+    bench.cache.start_scan(true);
+    assert_eq!(rt; bench.begin(), Ok((2, 1)));
+    let (bench, was_asked) = ended_elsewhere(&rt, bench);
+    assert_eq!(rt; (was_asked, bench.counts().pending), (true, 0));
+    Ok(())
 }

@@ -8,7 +8,7 @@ ghost use Rattle.kmem_model.specs.CacheEnter.{enter, all_freed, with_answer, wit
 ghost use Rattle.kmem_model.specs.CacheHistory.{MayEnter};
 ghost use Rattle.kmem_model.specs.declared.cache_entry.CacheEntry.TheVariants.{Scan, Begin, Idle, Gone, End, Forget};
 ghost use Rattle.slab_list.specs.Slabs.{mode_of};
-ghost use Rattle.object_cache.specs.Modes.{said_of};
+ghost use Rattle.kmem_answers.specs.Words.{said_of};
 ghost use Rattle.object_cache.specs.Moves.{IsMoveOf, IsJobOf, IsPending};
 ghost use Rattle.object_cache.specs.Plans.{IsPlan};
 

@@ -1,8 +1,8 @@
 //! Rows on scans and moves.
 ghost use Rattle.std.specs.Prelude.{◌≤◌, ◌<◌, ◌*◌};
 
-use super::{Bench, Counts};
-use crate::{AllocRefused, BeginRefused};
+use super::{Bench, Counters, Counts};
+use crate::{AllocRefused, BeginRefused, Job, SlabLine};
 use kmem_buf::Verdict;
 use std::alloc::{AllocError, Global};
 use std::test::Fail;
@@ -34,9 +34,15 @@ fn marked_after_three(rt: HostRuntime) -> Result<(), Fail> {
     bench.cache.start_scan(true);
     assert_eq!(rt; bench.begin(), Ok((0, 6)));
     assert!(rt; bench.end(0, Verdict::Later));
+    let marked = SlabLine {
+        used: 1,
+        stuck: Some(0),
+    };
+    assert_eq!(rt; bench.line(0), Some(marked));
     assert_eq!(rt; bench.alloc(), Ok(1));
     bench.free(0);
     assert_eq!(rt; bench.alloc(), Ok(6));
+    assert_eq!(rt; bench.destructed(), 9);
     Ok(())
 }
 
@@ -59,6 +65,7 @@ fn a_dead_slab(rt: HostRuntime) -> Result<(), Fail> {
         dead: 0,
     };
     assert_eq!(rt; bench.counts(), counts);
+    assert_eq!(rt; bench.destructed(), 9);
     Ok(())
 }
 
@@ -108,6 +115,7 @@ fn dead_slabs_taken_back(rt: HostRuntime) -> Result<(), Fail> {
     assert_eq!(rt; bench.alloc(), Err(AllocRefused::Full));
     assert!(rt; bench.end(0, Verdict::DontKnow));
     assert_eq!(rt; (bench.counts().free, bench.counts().dead), (1, 0));
+    assert_eq!(rt; bench.destructed(), 7);
     Ok(())
 }
 
@@ -130,6 +138,30 @@ fn as_many_as_the_limit(rt: HostRuntime) -> Result<(), Fail> {
     assert!(rt; bench.end(5, Verdict::No));
     assert!(rt; bench.begin().is_ok());
     assert_eq!(rt; bench.counts().pending, 63);
+    assert_eq!(rt; bench.destructed(), 195);
     bench.cache.forget();
+    Ok(())
+}
+
+// What a move tells of itself: its number, its old buffer and its new one.
+type Told = (u64, u32, u32);
+
+// What the job tells, and what its part does.
+fn told(job: Job<Counters>) -> (Told, Told) {
+    let of_job = (job.no(), job.from(), job.to());
+    let (pending, _buf) = job.part();
+    (of_job, (pending.no(), pending.from(), pending.to()))
+}
+
+// A move has the least number that no pending move has.
+#[test]
+fn moves_have_numbers(rt: HostRuntime) -> Result<(), Fail> {
+    let mut bench = filled(rt.alloc(), 3, 3, &[1, 2, 4, 5, 7, 8])?;
+    bench.cache.start_scan(true);
+    assert_eq!(rt; (bench.begin(), bench.begin()), (Ok((6, 1)), Ok((3, 2))));
+    let second = bench.jobs.pop().map(told);
+    let first = bench.jobs.pop().map(told);
+    assert_eq!(rt; first, Some(((0, 6, 1), (0, 6, 1))));
+    assert_eq!(rt; second, Some(((1, 3, 2), (1, 3, 2))));
     Ok(())
 }

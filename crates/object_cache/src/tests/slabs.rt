@@ -25,6 +25,7 @@ fn the_slab_layer_by_hand(rt: HostRuntime) -> Result<(), Fail> {
     };
     assert_eq!(rt; bench.counts(), counts);
     assert_eq!(rt; (bench.alloc(), bench.alloc()), (Ok(2), Ok(4)));
+    assert_eq!(rt; bench.destructed(), 7);
     Ok(())
 }
 
@@ -53,6 +54,7 @@ fn in_three_orders(rt: HostRuntime) -> Result<(), Fail> {
         }
         assert_eq!(rt; (bench.counts().slabs, bench.counts().out), (0, 0));
     }
+    assert_eq!(rt; bench.destructed(), 45);
     Ok(())
 }
 
@@ -74,6 +76,7 @@ fn a_slab_of_the_source_has_no_line(rt: HostRuntime) -> Result<(), Fail> {
     let kind = Counters {
         calls: 0,
         refused_at: 0,
+        destructed: 0,
     };
     let supply = Supply::create(rt.alloc(), 1)?;
     let cache = ObjectCache::create(rt.alloc(), kind, supply, 1, 2, 64)?;

@@ -10,4 +10,4 @@ invariant_of-result c =
     let p : pending ≡ replicate c.args.limit None = search rules in
     let a : asked ≡ replicate c.args.buffers false = c.in_ok-from_elem-2.ensures.items_if_clones_equal (λ y e. e) in
     let s : skip ≡ replicate c.args.buffers false = c.in_ok-from_elem-3.ensures.items_if_clones_equal (λ y e. e) in
-    rw (p, a, s) (start c.in_ok-stubs.field-0.items c.args.limit c.args.buffers c.in_ok-stubs.ensures.count c.in_ok-stubs.ensures.free c.ranges.limit.fits)
+    rw (p, a, s) (start c.in_ok-create_all.field-0.items c.args.limit c.args.buffers c.in_ok-create_all.ensures.count c.in_ok-create_all.ensures.free c.ranges.limit.fits)
