@@ -1,5 +1,5 @@
 -- What follows from the rule, and that a change of one seat's view keeps it.
-use Rattle.std.proofs.Common.{◌≡◌, ◌≢◌, ◌⊎◌, ℕ, zero, suc, ◌+◌, ◌%◌, ◌^◌, ◌<◌, ◌≤◌, List, [], ◌∷◌, map, length, set, refl, sym, ap, ◌∙◌, subst, ⊎_elim, arith, All}
+use Rattle.std.proofs.Common.{◌≡◌, ◌≢◌, ◌⊎◌, ℕ, ◌+◌, ◌%◌, ◌^◌, ◌<◌, ◌≤◌, List, [], ◌∷◌, map, length, set, refl, sym, ap, ◌∙◌, arith, All}
 use Rattle.std.proofs.lemmas.List.{length-map}
 use Rattle.std.proofs.lemmas.List.Sums.{sum_by-cons}
 use Rattle.std.proofs.lemmas.List.Elements.{All-nil, All-cons}
@@ -10,15 +10,17 @@ use mathlib.Core.Option as maybe
 use native.Mathlib.Decide.{ℕ_discrete}
 use lib.ListN.{get_elem?}
 use Rattle.atomic_table.specs.Table.{State}
-use Rattle.atomic_table.proofs.Lists.{at_set, set_here, set_else}
+use Rattle.atomic_table.proofs.Lists.{set_here, set_else}
 use Rattle.hist_lock.specs.declared.rule.Held.{Held}
 use Rattle.hist_lock.specs.declared.rule.Bounds.{Bounds}
 use Rattle.hist_lock.specs.declared.rule.Claim.{Claim}
 use Rattle.hist_lock.specs.declared.rule.Stage.{Stage}
 use Rattle.hist_lock.specs.declared.rule.Stage.TheVariants.{Waiting, Called, Holding}
 use Rattle.hist_lock.specs.declared.rule.View.{View}
-use Rattle.hist_lock.specs.Rule.{drawn, tickets_of, numbers_of, left_of, IsSpread, Fits, IsHome, IsIn, IsOut, OneLog}
-use Rattle.hist_lock.proofs.Totals.{total_set, total_at, total_two, total_le, mark, mark-same, mark-alone, one, total-one, run_one, run_once, run_in}
+use Rattle.table_sums.specs.Spread.{IsSpread}
+use Rattle.hist_lock.specs.Rule.{drawn, tickets_of, claim_numbers, left_of, FitsSeat, IsHome, IsIn, IsOut, OneLog}
+use Rattle.table_sums.proofs.Spreads.{seats_set, spread_kept, inside}
+use Rattle.table_sums.proofs.Totals.{total_set, total_at, total_two, total_le, mark, mark-same, mark-alone, one, total-one, run_one, run_once, run_in}
 
 -- a stage with a ticket
 abbrev pub IsDrawn : Stage → Type 0
@@ -36,26 +38,6 @@ drawn_holding ticket = refl
 module _ {E H : Type 0} where
   tickets_at : (v : View E H) (stage : Stage) → v.stage ≡ stage → IsDrawn stage → tickets_of v ≡ v.ticket ∷ []
   tickets_at v stage e is = ap (λ st. drawn st v.ticket) e ∙ is v.ticket
-
-  -- one seat's view changes
-  pub seats_set : (P Q : ℕ → View E H → Type 0) (views : List (View E H)) (me : ℕ) (w : View E H) → Q me w
-      → ((j : ℕ) (u : View E H) → j ≢ me → get_elem? views j ≡ some u → P j u → Q j u)
-      → ((j : ℕ) (u : View E H) → get_elem? views j ≡ some u → P j u)
-      → (j : ℕ) (u : View E H) → get_elem? (set views me w) j ≡ some u → Q j u
-  seats_set P Q views me w mine others all j u e = ⊎_elim
-      (λ (t : (j ≡ me) × (w ≡ u)). subst (λ (x : ℕ × View E H). Q x.0 x.1) (λ i. (sym t.0 i, t.1 i)) mine)
-      (λ (t : (j ≢ me) × (get_elem? views j ≡ some u)). others j u t.0 t.1 (all j u t.1))
-      (at_set views me j w u e)
-
-  pub spread_kept : (f : View E H → List ℕ) (views : List (View E H)) (numbers : List ℕ) (me : ℕ) (v w : View E H) → get_elem? views me ≡ some v
-      → f w ≡ f v → IsSpread f views numbers → IsSpread f (set views me w) numbers
-  spread_kept f views numbers me v w at same spread weight =
-      omega (arith, total_set (λ u. sum_by weight (f u)) views me v w at, ap (sum_by weight) same, spread weight)
-
-  inside : (views : List (View E H)) (me : ℕ) (v : View E H) → get_elem? views me ≡ some v → me < length views
-  inside [] me v e = absurd (some-ne-none v (sym e))
-  inside (x ∷ xs) zero v e = omega arith
-  inside (x ∷ xs) (suc me) v e = let h = inside xs me v e in omega arith
 
   -- where the seat keeps the value or has none, the value stays out
   pub out_kept : (views : List (View E H)) (me : ℕ) (v w : View E H) → get_elem? views me ≡ some v → (v.stage ≡ Holding → w.stage ≡ Holding) → IsOut views → IsOut (set views me w)
@@ -76,8 +58,8 @@ module _ {O E H : Type 0} (bounds : Bounds H) (stands : O → List (ℕ × E) �
   -- no more tickets are out than passes were dealt
   pub few : (s : St) (r : Rule s) → r.waiting ≤ r.dealt
   few s r =
-      let less = total_le (λ v. sum_by one (tickets_of v)) (λ v. sum_by one (numbers_of v)) s.views
-      (λ i v at. let fits = r.seats i v at in let t = fits.ticket in omega (arith, total-one (tickets_of v), total-one (numbers_of v), length-map v.claims (λ (c : Claim E). c.number))) in
+      let less = total_le (λ v. sum_by one (tickets_of v)) (λ v. sum_by one (claim_numbers v)) s.views
+      (λ i v at. let fits = r.seats i v at in let t = fits.ticket in omega (arith, total-one (tickets_of v), total-one (claim_numbers v), length-map v.claims (λ (c : Claim E). c.number))) in
       omega (arith, less, r.tickets one, r.numbers one, run_one r.serving r.waiting, run_one 0 r.dealt)
 
   -- a seat's ticket is one of those that are out
@@ -111,8 +93,8 @@ module _ {O E H : Type 0} (bounds : Bounds H) (stands : O → List (ℕ × E) �
   pub dealt_number : (s : St) (r : Rule s) (me : ℕ) (v : View E H) (c : Claim E) → get_elem? s.views me ≡ some v → v.claims ≡ c ∷ [] → c.number < r.dealt
   dealt_number s r me v c at e =
       let n = c.number in
-      let mine : sum_by (mark n) (numbers_of v) ≡ 1 = ap (λ cs. sum_by (mark n) (map (λ (x : Claim E). x.number) cs)) e ∙ mark-alone n in
-      let here = total_at (λ u. sum_by (mark n) (numbers_of u)) s.views me v at in
+      let mine : sum_by (mark n) (claim_numbers v) ≡ 1 = ap (λ cs. sum_by (mark n) (map (λ (x : Claim E). x.number) cs)) e ∙ mark-alone n in
+      let here = total_at (λ u. sum_by (mark n) (claim_numbers u)) s.views me v at in
       let all = r.numbers (mark n) in
       let within = run_in n 0 r.dealt (omega arith) in omega arith
 
@@ -128,8 +110,8 @@ module _ {O E H : Type 0} (bounds : Bounds H) (stands : O → List (ℕ × E) �
       → All (λ x. x.number ≢ c.number) u.claims
   others_differ s r me j v u c ne at there e =
       let n = c.number in
-      let mine : sum_by (mark n) (numbers_of v) ≡ 1 = ap (λ cs. sum_by (mark n) (map (λ (x : Claim E). x.number) cs)) e ∙ mark-alone n in
-      let both = total_two (λ w. sum_by (mark n) (numbers_of w)) s.views j me u v ne there at in
+      let mine : sum_by (mark n) (claim_numbers v) ≡ 1 = ap (λ cs. sum_by (mark n) (map (λ (x : Claim E). x.number) cs)) e ∙ mark-alone n in
+      let both = total_two (λ w. sum_by (mark n) (claim_numbers w)) s.views j me u v ne there at in
       let all = r.numbers (mark n) in
       let once = run_once n 0 r.dealt in
       unmarked n u.claims (omega arith)
@@ -143,11 +125,11 @@ module _ {O E H : Type 0} (bounds : Bounds H) (stands : O → List (ℕ × E) �
       → (words : List ℕ) (homes : List (maybe.Option (Held O E))) (serving waiting : ℕ) (log : List (ℕ × E))
       → words ≡ (serving + waiting) % 2 ^ 64 ∷ serving % 2 ^ 64 ∷ length log ∷ []
       → IsSpread tickets_of (set s.views me w) (range_with_len serving waiting)
-      → numbers_of w ≡ numbers_of v
+      → claim_numbers w ≡ claim_numbers v
       → length log + w.left ≤ length r.log + v.left
       → All (λ x. x.0 < r.dealt) log
-      → Fits bounds serving r.dealt log me w
-      → ((j : ℕ) (u : View E H) → j ≢ me → get_elem? s.views j ≡ some u → Fits bounds r.serving r.dealt r.log j u → Fits bounds serving r.dealt log j u)
+      → FitsSeat bounds serving r.dealt log me w
+      → ((j : ℕ) (u : View E H) → j ≢ me → get_elem? s.views j ≡ some u → FitsSeat bounds r.serving r.dealt r.log j u → FitsSeat bounds serving r.dealt log j u)
       → (((held : Held O E) × (homes ≡ some held ∷ []) × IsHome bounds stands home_of log held × IsIn (set s.views me w)) ⊎ IsOut (set s.views me w))
       → Rule record { words = words; homes = homes; views = set s.views me w }
   changed s r me v w at words homes serving waiting log words_are tickets same room known mine others slot = record {
@@ -158,10 +140,10 @@ module _ {O E H : Type 0} (bounds : Bounds H) (stands : O → List (ℕ × E) �
     log = log;
     words = words_are;
     tickets = tickets;
-    numbers = spread_kept numbers_of s.views (range_with_len 0 r.dealt) me v w at same r.numbers;
+    numbers = spread_kept claim_numbers s.views (range_with_len 0 r.dealt) me v w at same r.numbers;
     dealt_in = r.dealt_in;
     room = let all = r.room in omega (arith, total_set left_of s.views me v w at);
     known = known;
-    seats = seats_set (Fits bounds r.serving r.dealt r.log) (Fits bounds serving r.dealt log) s.views me w mine others r.seats;
+    seats = seats_set (FitsSeat bounds r.serving r.dealt r.log) (FitsSeat bounds serving r.dealt log) s.views me w mine others r.seats;
     slot = slot;
   }

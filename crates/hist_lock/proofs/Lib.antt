@@ -1,4 +1,3 @@
-pub mod Totals
 pub mod Keeps
 pub mod Moves
 pub mod Shares

@@ -20,10 +20,12 @@ use Rattle.hist_lock.specs.declared.rule.Stage.{Stage}
 use Rattle.hist_lock.specs.declared.rule.Stage.TheVariants.{Idle, Waiting, Called, Holding}
 use Rattle.hist_lock.specs.declared.rule.View.{View}
 use Rattle.hist_lock.specs.History.{IsFront, entries_of}
-use Rattle.hist_lock.specs.Rule.{drawn, tickets_of, numbers_of, left_of, IsSpread, own, FitsClaim, FitsStage, Fits, IsHome, IsIn, IsOut, OneLog}
+use Rattle.table_sums.specs.Spread.{IsSpread}
+use Rattle.hist_lock.specs.Rule.{drawn, tickets_of, claim_numbers, left_of, own, FitsClaim, FitsStage, FitsSeat, IsHome, IsIn, IsOut, OneLog}
 use Rattle.hist_lock.specs.Steps.{at_stage, drew, with_journal, took, raised, Sat, IsAt, Draws, Looks, Takes, journal_of, Raises, Gives, Serves}
-use Rattle.hist_lock.proofs.Totals.{total_set, run_last, run_first}
-use Rattle.hist_lock.proofs.Keeps.{drawn_waiting, drawn_called, drawn_holding, seats_set, spread_kept, out_kept, in_kept, few, in_line, alone, dealt_number, others_differ, room_at, changed}
+use Rattle.table_sums.proofs.Spreads.{seats_set, spread_kept}
+use Rattle.table_sums.proofs.Totals.{total_set, run_last, run_first}
+use Rattle.hist_lock.proofs.Keeps.{drawn_waiting, drawn_called, drawn_holding, out_kept, in_kept, few, in_line, alone, dealt_number, others_differ, room_at, changed}
 
 -- the words of the table, by place
 abbrev words_of : ℕ → ℕ → ℕ → List ℕ
@@ -104,7 +106,7 @@ module _ {O E H : Type 0} (bounds : Bounds H) (stands : O → List (ℕ × E) �
 
   -- what a seat knows where neither its claims nor its bounds change
   restaged : (s : St) (r : R s) (me : ℕ) (v w : V) (serving : ℕ) → get_elem? s.views me ≡ some v → w.bounds ≡ v.bounds → w.dealt ≡ v.dealt → w.claims ≡ v.claims
-      → FitsStage serving r.log w.ticket (own w) w.stage → length (tickets_of w) ≤ length v.claims → Fits bounds serving r.dealt r.log me w
+      → FitsStage serving r.log w.ticket (own w) w.stage → length (tickets_of w) ≤ length v.claims → FitsSeat bounds serving r.dealt r.log me w
   restaged s r me v w serving at same_bounds same_dealt same_claims stage ticket = let f = r.seats me v at in record {
     of = λ b e. f.of b (sym same_bounds ∙ e);
     deals = λ n e. f.deals n (sym same_dealt ∙ e);
@@ -173,7 +175,7 @@ module _ {O E H : Type 0} (bounds : Bounds H) (stands : O → List (ℕ × E) �
 
   -- the pass has seen this journal, which is the history
   seen_journal : (s : St) (r : R s) (id : ℕ) (v w : V) (log journal : List (ℕ × E)) → get_elem? s.views id ≡ some v → journal ≡ log → w.bounds ≡ v.bounds → w.dealt ≡ v.dealt
-      → w.claims ≡ with_journal journal (own v) ∷ [] → w.ticket ≡ r.serving → w.stage ≡ Holding → Fits bounds r.serving r.dealt log id w
+      → w.claims ≡ with_journal journal (own v) ∷ [] → w.ticket ≡ r.serving → w.stage ≡ Holding → FitsSeat bounds r.serving r.dealt log id w
   seen_journal s r id v w log journal at j same_bounds same_dealt claims served holding = let f = r.seats id v at in let c = with_journal journal (own v) in record {
     of = λ b e. f.of b (sym same_bounds ∙ e);
     deals = λ n e. f.deals n (sym same_dealt ∙ e);
@@ -201,7 +203,7 @@ module _ {O E H : Type 0} (bounds : Bounds H) (stands : O → List (ℕ × E) �
   takes_it slots id me is s r one at small =
       let v = me.0 in let home = at_home s r id v at is.0 in let held = home.0 in let h = home.2 in let journal = held.journal.items in let w = took journal v in
       let f = r.seats id v at in let mine = own_fits s r id v at is.1 in let served = stage_at s r id v Called at is.0 in
-      let numbers : numbers_of w ≡ numbers_of v = ap (map (λ (c : Claim E). c.number)) (sym is.1) in
+      let numbers : claim_numbers w ≡ claim_numbers v = ap (map (λ (c : Claim E). c.number)) (sym is.1) in
       let same : tickets_of w ≡ tickets_of v = sym (ap (λ st. drawn st v.ticket) is.0) in
       let j = h.journal in let roomy = room_at bounds stands home_of s r id v at in
       let P : Bounds H → Type 0 = λ b. (home_of held.object ≡ b.home) × (length journal + v.left ≤ b.room) × (b.room < 2 ^ 32) × (b.room ≤ vec_capacity held.journal) in (
@@ -236,10 +238,10 @@ module _ {O E H : Type 0} (bounds : Bounds H) (stands : O → List (ℕ × E) �
       let next : (get_or s.words 2 0 + 1) % 2 ^ 64 ≡ length journal = ap (λ n. (n + 1) % 2 ^ 64) found ∙ (mod-eq_of_lt (omega arith) ∙ sym length_is) in
       let words : set s.words 2 ((get_or s.words 2 0 + 1) % 2 ^ 64) ≡ words_of ((r.serving + r.waiting) % 2 ^ 64) (r.serving % 2 ^ 64) (length journal) =
       ap (λ ws. set ws 2 ((get_or s.words 2 0 + 1) % 2 ^ 64)) r.words ∙ ap (words_of ((r.serving + r.waiting) % 2 ^ 64) (r.serving % 2 ^ 64)) next in
-      let numbers : numbers_of w ≡ numbers_of v = ap (map (λ (c : Claim E). c.number)) (sym is.1) in
+      let numbers : claim_numbers w ≡ claim_numbers v = ap (map (λ (c : Claim E). c.number)) (sym is.1) in
       let known : All (λ (y : ℕ × E). y.0 < r.dealt) journal = All-same (λ y. y.0 < r.dealt) journal (r.log ++ (n, x) ∷ []) longer
       (All-push (λ (y : ℕ × E). y.0 < r.dealt) r.log (n, x) r.known (dealt_number bounds stands home_of s r id v (own v) at is.1)) in
-      let others : (j : ℕ) (u : V) → j ≢ id → get_elem? s.views j ≡ some u → Fits bounds r.serving r.dealt r.log j u → Fits bounds r.serving r.dealt journal j u = λ j u ne there f.
+      let others : (j : ℕ) (u : V) → j ≢ id → get_elem? s.views j ≡ some u → FitsSeat bounds r.serving r.dealt r.log j u → FitsSeat bounds r.serving r.dealt journal j u = λ j u ne there f.
       let differ = others_differ bounds stands home_of s r id j v u (own v) ne at there is.1 in record {
         of = f.of;
         deals = f.deals;
@@ -292,7 +294,7 @@ module _ {O E H : Type 0} (bounds : Bounds H) (stands : O → List (ℕ × E) �
       let had : tickets_of v ≡ r.serving ∷ [] = ap (λ st. drawn st v.ticket) is.0 ∙ ap (λ n. n ∷ []) served in
       let tickets : IsSpread tickets_of (set s.views id w) (range_with_len (r.serving + 1) (r.waiting - 1)) = λ (f : ℕ → ℕ).
       omega (arith, total_set (λ u. sum_by f (tickets_of u)) s.views id v w at, ap (sum_by f) had, r.tickets f, run_first f r.serving r.waiting some_wait) in
-      let others : (j : ℕ) (u : V) → j ≢ id → get_elem? s.views j ≡ some u → Fits bounds r.serving r.dealt r.log j u → Fits bounds (r.serving + 1) r.dealt r.log j u = λ j u ne there f. record {
+      let others : (j : ℕ) (u : V) → j ≢ id → get_elem? s.views j ≡ some u → FitsSeat bounds r.serving r.dealt r.log j u → FitsSeat bounds (r.serving + 1) r.dealt r.log j u = λ j u ne there f. record {
         of = f.of;
         deals = f.deals;
         claims = f.claims;

@@ -1,7 +1,7 @@
 -- The rule holds at the start, is kept where seats are split and joined, and says at the end what the lock's close does.
 use Rattle.std.proofs.Common.{◌≡◌, ◌≢◌, ◌==◌, ℕ, zero, suc, ◌+◌, ◌^◌, ◌<◌, ◌≤◌, List, [], ◌∷◌, ◌++◌, map, length, set, refl, sym, ap, ◌∙◌, subst, inl, inr, ⊎_elim, arith, All, Contains, Some, unwrap_or, vec_capacity, ne_eqb, cond}
 use Rattle.std.proofs.lemmas.List.{map-append, length-map}
-use Rattle.std.proofs.lemmas.List.Sums.{sum_by-cons, sum_by-append, sum_by_push}
+use Rattle.std.proofs.lemmas.List.Sums.{sum_by-append, sum_by_push}
 use Rattle.std.proofs.lemmas.List.Elements.{All-nil, All-cons, All-head, All-tail, All-append, All-weaker}
 use Rattle.std.specs.List.{sum_by, range_with_len, filter}
 use mathlib.Core.Logic.{dite}
@@ -17,17 +17,12 @@ use Rattle.hist_lock.specs.declared.rule.Claim.{Claim}
 use Rattle.hist_lock.specs.declared.rule.Stage.TheVariants.{Idle, Holding}
 use Rattle.hist_lock.specs.declared.rule.View.{View}
 use Rattle.hist_lock.specs.History.{entries_of}
-use Rattle.hist_lock.specs.Rule.{drawn, tickets_of, numbers_of, left_of, IsSpread, dealer, own, FitsClaim, FitsStage, Fits, IsHome, IsIn, IsOut, OneLog}
+use Rattle.table_sums.specs.Spread.{IsSpread}
+use Rattle.hist_lock.specs.Rule.{drawn, tickets_of, claim_numbers, left_of, dealer, own, FitsClaim, FitsStage, FitsSeat, IsHome, IsIn, IsOut, OneLog}
 use Rattle.hist_lock.specs.Steps.{spent, joined, dealt_of, dealt_one, newcomer}
-use Rattle.hist_lock.proofs.Totals.{total_set, total_two, total_none, total_only, mark, mark-other, one, total-one, run_one, run_last, run_has}
-use Rattle.hist_lock.proofs.Keeps.{seats_set, spread_kept, out_kept, in_kept}
-
--- a number that stands in a list at all is one of its elements
-contains_marked : (n : ℕ) (xs : List ℕ) → 0 < sum_by (mark n) xs → Contains xs n
-contains_marked n [] some_there = absurd (omega arith)
-contains_marked n (x ∷ xs) some_there = dite (ℕ_discrete x n)
-    (λ e. (0, omega arith, e))
-    (λ ne. let c = contains_marked n xs (omega (arith, sum_by-cons (mark n) x xs, mark-other n x ne)) in (suc c.0, omega arith, c.2))
+use Rattle.table_sums.proofs.Spreads.{seats_set, spread_kept, contains_marked}
+use Rattle.table_sums.proofs.Totals.{total_set, total_at, total_two, total_none, total_only, mark, one, total-one, run_one, run_last, run_has}
+use Rattle.hist_lock.proofs.Keeps.{out_kept, in_kept}
 
 module _ {E : Type 0} where
   -- a history with no entry of a number
@@ -69,7 +64,7 @@ module _ {O E H : Type 0} (bounds : Bounds H) (stands : O → List (ℕ × E) �
     slot = inl (held, refl, record { journal = empty; stood = stood; home = home; room = roomy }, none_out);
   }
     where
-      first : Fits {E = E} bounds 0 0 [] 0 (dealer bounds)
+      first : FitsSeat {E = E} bounds 0 0 [] 0 (dealer bounds)
       first = record {
         of = λ b e. cc e;
         deals = λ n e. (refl, cc e);
@@ -78,8 +73,8 @@ module _ {O E H : Type 0} (bounds : Bounds H) (stands : O → List (ℕ × E) �
         ticket = omega arith;
       }
 
-      seats : (id : ℕ) (v : V) → get_elem? (dealer bounds ∷ []) id ≡ some v → Fits {E = E} bounds 0 0 [] id v
-      seats zero v e = subst (Fits bounds 0 0 [] 0) (some-injective (dealer bounds) v e) first
+      seats : (id : ℕ) (v : V) → get_elem? (dealer bounds ∷ []) id ≡ some v → FitsSeat {E = E} bounds 0 0 [] id v
+      seats zero v e = subst (FitsSeat bounds 0 0 [] 0) (some-injective (dealer bounds) v e) first
       seats (suc id) v e = absurd (some-ne-none v (sym e))
 
       none_out : IsIn {E = E} (dealer bounds ∷ [])
@@ -94,24 +89,24 @@ module _ {O E H : Type 0} (bounds : Bounds H) (stands : O → List (ℕ × E) �
       let tickets : IsSpread tickets_of (views ++ new ∷ []) (range_with_len r.serving r.waiting) = λ (g : ℕ → ℕ).
       omega (arith, sum_by_push (λ u. sum_by g (tickets_of u)) views new, spread_kept tickets_of s.views (range_with_len r.serving r.waiting) id v w at refl r.tickets g) in
       let next : 0 + r.dealt ≡ dealt_of v = omega arith in
-      let numbers : IsSpread numbers_of (views ++ new ∷ []) (range_with_len 0 (r.dealt + 1)) = λ (g : ℕ → ℕ).
-      omega (arith, sum_by_push (λ u. sum_by g (numbers_of u)) views new, spread_kept numbers_of s.views (range_with_len 0 r.dealt) id v w at refl r.numbers g, run_last g 0 r.dealt, ap g next) in
+      let numbers : IsSpread claim_numbers (views ++ new ∷ []) (range_with_len 0 (r.dealt + 1)) = λ (g : ℕ → ℕ).
+      omega (arith, sum_by_push (λ u. sum_by g (claim_numbers u)) views new, spread_kept claim_numbers s.views (range_with_len 0 r.dealt) id v w at refl r.numbers g, run_last g 0 r.dealt, ap g next) in
       let nothing : entries_of (dealt_of v) r.log ≡ [] = none_of (dealt_of v) r.log (All-weaker (λ x. x.0 < r.dealt) (λ x. x.0 < dealt_of v) (λ x lt. omega arith) r.log r.known) in
-      let dealing : Fits bounds r.serving (r.dealt + 1) r.log id w = record {
+      let dealing : FitsSeat bounds r.serving (r.dealt + 1) r.log id w = record {
         of = f.of;
         deals = λ m e. let m_is : dealt_of v + 1 ≡ m = cc e in (first.0, omega arith);
         claims = f.claims;
         stage = f.stage;
         ticket = f.ticket;
       } in
-      let others : (j : ℕ) (u : V) → j ≢ id → get_elem? s.views j ≡ some u → Fits bounds r.serving r.dealt r.log j u → Fits bounds r.serving (r.dealt + 1) r.log j u = λ j u ne there fu. record {
+      let others : (j : ℕ) (u : V) → j ≢ id → get_elem? s.views j ≡ some u → FitsSeat bounds r.serving r.dealt r.log j u → FitsSeat bounds r.serving (r.dealt + 1) r.log j u = λ j u ne there fu. record {
         of = fu.of;
         deals = λ m e. absurd (let zeroth = fu.deals m e in ne (zeroth.0 ∙ sym first.0));
         claims = fu.claims;
         stage = fu.stage;
         ticket = fu.ticket;
       } in
-      let joining : (j : ℕ) → Fits bounds r.serving (r.dealt + 1) r.log j new = λ j. record {
+      let joining : (j : ℕ) → FitsSeat bounds r.serving (r.dealt + 1) r.log j new = λ j. record {
         of = f.of;
         deals = λ m e. absurd (cc e);
         claims = All-cons (FitsClaim r.log) (record { number = dealt_of v; seen = []; mine = [] }) [] ((r.log, refl), nothing) (All-nil (FitsClaim r.log));
@@ -132,8 +127,8 @@ module _ {O E H : Type 0} (bounds : Bounds H) (stands : O → List (ℕ × E) �
         room = let all = r.room in omega (arith, sum_by_push left_of views new, total_set left_of s.views id v w at);
         known = All-weaker (λ x. x.0 < r.dealt) (λ x. x.0 < r.dealt + 1) (λ x lt. omega arith) r.log r.known;
         seats = λ j u e. ⊎_elim
-            (λ (t : get_elem? views j ≡ some u). seats_set (Fits bounds r.serving r.dealt r.log) (Fits bounds r.serving (r.dealt + 1) r.log) s.views id w dealing others r.seats j u t)
-            (λ (t : new ≡ u). subst (Fits bounds r.serving (r.dealt + 1) r.log j) t (joining j))
+            (λ (t : get_elem? views j ≡ some u). seats_set (FitsSeat bounds r.serving r.dealt r.log) (FitsSeat bounds r.serving (r.dealt + 1) r.log) s.views id w dealing others r.seats j u t)
+            (λ (t : new ≡ u). subst (FitsSeat bounds r.serving (r.dealt + 1) r.log j) t (joining j))
             (at_snoc views new u j e);
         slot = ⊎_elim
             (λ (t : Home s.homes r.log s.views). inl (
@@ -157,24 +152,24 @@ module _ {O E H : Type 0} (bounds : Bounds H) (stands : O → List (ℕ × E) �
       let no_ticket : tickets_of v ≡ [] = ap (λ st. drawn st v.ticket) idle in let no_other : tickets_of u ≡ [] = ap (λ st. drawn st u.ticket) other_idle in
       let tickets : IsSpread tickets_of (set views other gone) (range_with_len r.serving r.waiting) = λ (g : ℕ → ℕ).
       omega (arith, total_set (λ x. sum_by g (tickets_of x)) views other u gone there, spread_kept tickets_of s.views (range_with_len r.serving r.waiting) id v w at refl r.tickets g, ap (sum_by g) no_other) in
-      let numbers : IsSpread numbers_of (set views other gone) (range_with_len 0 r.dealt) = λ (g : ℕ → ℕ).
-      let split : numbers_of w ≡ numbers_of u ++ numbers_of v = map-append (λ (c : Claim E). c.number) u.claims v.claims in
-      omega (arith, total_set (λ x. sum_by g (numbers_of x)) views other u gone there, total_set (λ x. sum_by g (numbers_of x)) s.views id v w at, ap (sum_by g) split, sum_by-append g (numbers_of u) (numbers_of v), r.numbers g) in
-      let mine : Fits bounds r.serving r.dealt r.log id w = record {
+      let numbers : IsSpread claim_numbers (set views other gone) (range_with_len 0 r.dealt) = λ (g : ℕ → ℕ).
+      let split : claim_numbers w ≡ claim_numbers u ++ claim_numbers v = map-append (λ (c : Claim E). c.number) u.claims v.claims in
+      omega (arith, total_set (λ x. sum_by g (claim_numbers x)) views other u gone there, total_set (λ x. sum_by g (claim_numbers x)) s.views id v w at, ap (sum_by g) split, sum_by-append g (claim_numbers u) (claim_numbers v), r.numbers g) in
+      let mine : FitsSeat bounds r.serving r.dealt r.log id w = record {
         of = f.of;
         deals = f.deals;
         claims = All-append (FitsClaim r.log) u.claims v.claims fu.claims f.claims;
         stage = subst (FitsStage r.serving r.log w.ticket (own w)) (sym idle) tt;
         ticket = omega (arith, ap length no_ticket);
       } in
-      let theirs : Fits bounds r.serving r.dealt r.log other gone = record {
+      let theirs : FitsSeat bounds r.serving r.dealt r.log other gone = record {
         of = λ b e. absurd (cc e);
         deals = λ n e. absurd (cc e);
         claims = All-nil (FitsClaim r.log);
         stage = tt;
         ticket = omega arith;
       } in
-      let Q = Fits bounds r.serving r.dealt r.log in
+      let Q = FitsSeat bounds r.serving r.dealt r.log in
       let all = seats_set Q Q s.views id w mine (λ _ _ _ _ h. h) r.seats in
       record {
         small = r.small;
@@ -201,14 +196,16 @@ module _ {O E H : Type 0} (bounds : Bounds H) (stands : O → List (ℕ × E) �
     pub home : home_of held.object ≡ bounds.home
     pub fits : All (FitsClaim held.journal.items) claims
     pub known : All (λ x. Contains (map (λ (c : Claim E). c.number) claims) x.0) held.journal.items
+    pub weighs : (weight : ℕ → ℕ) → sum_by weight (map (λ (c : Claim E). c.number) claims) ≡ sum_by weight (range_with_len 0 bounds.count)
+    pub room : length held.journal.items ≤ bounds.room
 
   -- as many numbers as there are passes stand with this seat: the value is at home, and each entry carries one of them
   pub closes : (id : ℕ) (v : V) (ws : List ℕ) (xs : List (Held O E)) (held : Held O E) → Final (Seen R id v) ws xs → v.stage ≡ Idle → length v.claims ≡ bounds.count
       → get_elem? xs 0 ≡ some held → IsClosed held v.claims
   closes id v ws xs held final idle every here =
       let s = final.0 in let r = final.1.0 in let at = final.1.1 in let f = r.seats id v at in
-      let F : V → ℕ = λ u. sum_by one (numbers_of u) in
-      let mine : F v ≡ length v.claims = total-one (numbers_of v) ∙ length-map v.claims (λ (c : Claim E). c.number) in
+      let F : V → ℕ = λ u. sum_by one (claim_numbers u) in
+      let mine : F v ≡ length v.claims = total-one (claim_numbers v) ∙ length-map v.claims (λ (c : Claim E). c.number) in
       let total = r.numbers one in let limit = r.dealt_in in
       let whole : sum_by F s.views ≤ F v = omega (arith, run_one 0 r.dealt) in
       let home : Home s.homes r.log s.views = ⊎_elim (λ (h : Home s.homes r.log s.views). h)
@@ -217,21 +214,27 @@ module _ {O E H : Type 0} (bounds : Bounds H) (stands : O → List (ℕ × E) �
       let i : Idle ≡ Holding = sym idle ∙ (ap (λ (u : V). u.stage) same ∙ o.3) in absurd (cc i))
       (λ ne. let fu = r.seats o.0 o.1 o.2 in let t = fu.ticket in
       let two = total_two F s.views id o.0 v o.1 (λ e. ne (sym e)) at o.2 in
-      let theirs : F o.1 ≡ length o.1.claims = total-one (numbers_of o.1) ∙ length-map o.1.claims (λ (c : Claim E). c.number) in
+      let theirs : F o.1 ≡ length o.1.claims = total-one (claim_numbers o.1) ∙ length-map o.1.claims (λ (c : Claim E). c.number) in
       let ticket : tickets_of o.1 ≡ o.1.ticket ∷ [] = ap (λ st. drawn st o.1.ticket) o.3 in
       omega (arith, ap length ticket))))
       r.slot in
       let same : home.0 ≡ held = some-injective home.0 held (sym (final.4 0 home.0 (ap (λ hs. get_elem? hs 0) home.1)) ∙ here) in
       let h = home.2 in
-      let known : All (λ x. Contains (numbers_of v) x.0) r.log = All-weaker (λ x. x.0 < r.dealt) (λ x. Contains (numbers_of v) x.0)
-      (λ x lt. let only = total_only F (λ u. sum_by (mark x.0) (numbers_of u)) s.views id v at whole
-      (λ u z. total_none one (mark x.0) (numbers_of u) z (λ n e. absurd (omega arith))) in
+      let known : All (λ x. Contains (claim_numbers v) x.0) r.log = All-weaker (λ x. x.0 < r.dealt) (λ x. Contains (claim_numbers v) x.0)
+      (λ x lt. let only = total_only F (λ u. sum_by (mark x.0) (claim_numbers u)) s.views id v at whole
+      (λ u z. total_none one (mark x.0) (claim_numbers u) z (λ n e. absurd (omega arith))) in
       let all = r.numbers (mark x.0) in let has = run_has x.0 0 r.dealt (omega arith) (omega arith) in
-      contains_marked x.0 (numbers_of v) (omega arith)) r.log r.known in
+      contains_marked x.0 (claim_numbers v) (omega arith)) r.log r.known in
+      let all_dealt : r.dealt ≡ bounds.count = omega (arith, run_one 0 r.dealt, total_at F s.views id v at) in
       let closed : IsClosed home.0 v.claims = record {
         stood = subst (stands home.0.object) (sym h.journal) h.stood;
         home = h.home;
         fits = subst (λ l. All (FitsClaim l) v.claims) (sym h.journal) f.claims;
-        known = subst (λ l. All (λ x. Contains (numbers_of v) x.0) l) (sym h.journal) known;
+        known = subst (λ l. All (λ x. Contains (claim_numbers v) x.0) l) (sym h.journal) known;
+        weighs = λ weight.
+            let only = total_only F (λ u. sum_by weight (claim_numbers u)) s.views id v at whole
+            (λ u z. total_none one weight (claim_numbers u) z (λ n e. absurd (omega arith))) in
+            sym only ∙ (r.numbers weight ∙ ap (λ n. sum_by weight (range_with_len 0 n)) all_dealt);
+        room = let all = r.room in omega (arith, ap length h.journal);
       } in
       subst (λ x. IsClosed x v.claims) same closed

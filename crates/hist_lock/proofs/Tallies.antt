@@ -8,7 +8,7 @@ use mathlib.Core.Logic.{dite}
 use native.Mathlib.Decide.{ℕ_discrete}
 use Rattle.hist_lock.specs.History.{IsFront, entries_of}
 use Rattle.hist_lock.proofs.Moves.{entries_of-append}
-use Rattle.hist_lock.specs.Passes.{Site, Standing}
+use Rattle.hist_lock.specs.Passes.{Site, PassState}
 use Rattle.hist_lock.specs.Tally.{sum_of, IsTally, sums_before, IsDone}
 
 -- one more amount fits, where the entries can be counted
@@ -78,7 +78,7 @@ two_popped p q a b xs ys zs e f h = popped zs (sym (ap (λ l. l ++ b ∷ []) h) 
     popped (x ∷ y ∷ z ∷ l) k = absurd (cc k)
 
 -- what a pass found is what the whole history has before each of its entries
-pub found_whole : (site : Site ℕ) (number : ℕ) (pass : Standing ℕ ℕ) (found : List ℕ) (history : List (ℕ × ℕ)) → IsDone site number pass found → IsFront pass.seen history → entries_of pass.number history ≡ pass.mine
+pub found_whole : (site : Site ℕ) (number : ℕ) (pass : PassState ℕ ℕ) (found : List ℕ) (history : List (ℕ × ℕ)) → IsDone site number pass found → IsFront pass.seen history → entries_of pass.number history ≡ pass.mine
     → found ≡ sums_before 0 number history
 found_whole site number pass found history done front exact =
     done.3 ∙ sym (same_before number pass.seen history pass.mine front done.4 (ap (λ n. entries_of n history) (sym done.1) ∙ exact))

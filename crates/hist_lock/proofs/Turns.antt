@@ -7,10 +7,10 @@ use Rattle.hist_lock.specs.declared.rule.Bounds.{Bounds}
 use Rattle.hist_lock.specs.declared.rule.Claim.{Claim}
 use Rattle.hist_lock.specs.declared.rule.Stage.TheVariants.{Idle, Holding}
 use Rattle.hist_lock.specs.History.{entries_of, listed, told}
-use Rattle.hist_lock.specs.Passes.{Standing, MayMeet, IsTurn}
+use Rattle.hist_lock.specs.Passes.{PassState, MayMeet, IsTurn}
 use Rattle.hist_lock.specs.Rule.{own}
 use Rattle.hist_lock.specs.Steps.{Sat, IsAt, at_stage, with_journal}
-use Rattle.hist_lock.specs.Seats.{standing_of, IsResting, HasEntered, HasRun, HasNoted}
+use Rattle.hist_lock.specs.Seats.{pass_state, IsResting, HasEntered, HasRun, HasNoted}
 use Rattle.hist_lock.proofs.Moves.{entries_of-push}
 
 -- the pass's entries after its turn
@@ -40,8 +40,8 @@ module _ {O E H : Type 0} (stands : O → List (ℕ × E) → Type 0) (home_of :
   abbrev journal : List (ℕ × E)
   journal = held.journal.items
 
-  abbrev pass : Standing E H
-  pass = standing_of table b number left (own me.0)
+  abbrev pass : PassState E H
+  pass = pass_state table b number left (own me.0)
 
   within : (home_of held.object ≡ b.home) × (length journal + me.0.left ≤ b.room) × (b.room < 2 ^ 32) × (b.room ≤ vec_capacity held.journal)
   within = let f = entered.found in f.within b resting.bounds
@@ -55,19 +55,19 @@ module _ {O E H : Type 0} (stands : O → List (ℕ × E) → Type 0) (home_of :
   }
 
   -- the turn may run
-  pub asks : (can : ℕ → H → List (ℕ × E) → Type 0) (p : Standing E H) → pass ≡ p
+  pub asks : (can : ℕ → H → List (ℕ × E) → Type 0) (p : PassState E H) → pass ≡ p
       → ((h : List (ℕ × E)) (object : O) → MayMeet p h → stands object h → home_of object ≡ p.site.home → can p.number p.site.home h)
       → can number (home_of held.object) journal
   asks can p view given = let f = entered.found in let w = within in
-      let home : home_of held.object ≡ p.site.home = w.0 ∙ ap (λ (q : Standing E H). q.site.home) view in
-      let may : can p.number p.site.home journal = given journal held.object (subst (λ (q : Standing E H). MayMeet q journal) view meets) f.stood home in
-      subst (λ (x : ℕ × H). can x.0 x.1 journal) (λ i. ((sym (ap (λ (q : Standing E H). q.number) view)) i, sym home i)) may
+      let home : home_of held.object ≡ p.site.home = w.0 ∙ ap (λ (q : PassState E H). q.site.home) view in
+      let may : can p.number p.site.home journal = given journal held.object (subst (λ (q : PassState E H). MayMeet q journal) view meets) f.stood home in
+      subst (λ (x : ℕ × H). can x.0 x.1 journal) (λ i. ((sym (ap (λ (q : PassState E H). q.number) view)) i, sym home i)) may
 
   -- the claim of the seat that has the value
   own_number : (own at_hand.0).number ≡ number
   own_number = ap (λ (c : Claim E). c.number) entered.claim ∙ resting.number_is
 
-  module _ {Out : Type 0} (can : H → List (ℕ × E) → Type 0) (tells : H → List (ℕ × E) → Out → Option E → Type 0) (out : Out) (entry : Option E)
+  module _ {Out : Type 0} (can : H → List (ℕ × E) → Type 0) (tells : H → O → O → List (ℕ × E) → Out → Option E → Type 0) (out : Out) (entry : Option E)
       (new : Held O E) (run : Sat O E H) (view : run.0 ≡ at_hand.0) (hand : run.1 ≡ (0, new) ∷ []) (ran : HasRun stands home_of can tells number held new out entry) where
     pub run_at : IsAt Holding ((0, new) ∷ []) run
     run_at = let h = entered.holds in (ap (λ v. v.stage) view ∙ h.0, ap (λ v. v.claims) view ∙ (h.1 ∙ ap (λ v. own v ∷ []) (sym view)), hand)
@@ -129,13 +129,15 @@ module _ {O E H : Type 0} (stands : O → List (ℕ × E) → Type 0) (home_of :
           exact = exact_now;
         }
 
-        pub turned : IsTurn stands home_of (tells b.home) pass (standing_of table b number left_now (own me_now.0)) out journal entry
+        pub turned : IsTurn stands home_of (tells b.home) pass (pass_state table b number left_now (own me_now.0)) out journal entry
         turned = let f = entered.found in let w = within in let r = ran.ran journal f.stood may in
             let seen : (own me_now.0).seen ≡ told journal number entry = ap (λ (c : Claim E). c.seen) claim_now ∙ told_is in record {
               met = meets;
-              stood = (held.object, f.stood, w.0);
-              answered = subst (λ h. tells h journal out entry) w.0 r.1;
-              stands_now = (last.object, stood_now, home_now);
+              before = held.object;
+              after = last.object;
+              stood = (f.stood, w.0);
+              stands_now = (stood_now, home_now);
+              answered = subst (λ (x : H × O). tells x.0 held.object x.1 journal out entry) (λ i. (w.0 i, sym noted.object i)) r.1;
               seen = seen;
               mine = sym exact_now ∙ (ap (entries_of number) seen ∙ (entries_of-told number journal entry ∙ ap (λ l. l ++ listed entry) (ap (λ n. entries_of n journal) (sym resting.number_is) ∙ f.exact)));
               left = fewer;

@@ -11,7 +11,7 @@ pub record Site (H : Type 0) : Type 0 where
   pub count : ℕ
 
 -- a pass: its lock, its number, how many entries it may still make, the history that it has seen, and its own entries there
-pub record Standing (E H : Type 0) : Type 0 where
+pub record PassState (E H : Type 0) : Type 0 where
   pub site : Site H
   pub number : ℕ
   pub left : ℕ
@@ -20,34 +20,37 @@ pub record Standing (E H : Type 0) : Type 0 where
 
 module _ {E H : Type 0} where
   -- a pass with this number and quota that has seen nothing yet
-  abbrev pub fresh : Site H → ℕ → ℕ → Standing E H
+  abbrev pub fresh : Site H → ℕ → ℕ → PassState E H
   fresh site number quota = record { site = site; number = number; left = quota; seen = []; mine = [] }
 
   -- one fresh pass for each quota, in order, numbered from the given number
-  abbrev pub fresh_passes : Site H → ℕ → List ℕ → List (Standing E H)
+  abbrev pub fresh_passes : Site H → ℕ → List ℕ → List (PassState E H)
   fresh_passes site number [] = []
   fresh_passes site number (quota ∷ quotas) = fresh site number quota ∷ fresh_passes site (number + 1) quotas
 
 -- The pass's next turn may find this history: it begins with all that the pass has seen, the pass's entries in it are
 -- exactly its own, and there is room for those that it may still make
-pub record MayMeet {E H : Type 0} (pass : Standing E H) (history : List (ℕ × E)) : Type 0 where
+pub record MayMeet {E H : Type 0} (pass : PassState E H) (history : List (ℕ × E)) : Type 0 where
   pub front : IsFront pass.seen history
   pub exact : entries_of pass.number history ≡ pass.mine
   pub room : length history + pass.left ≤ pass.site.room
   pub bound : pass.site.room < 2 ^ 32
 
--- some object of this home stands for the history
-abbrev pub IsStoodFor : {O E H : Type 0} → (O → List (ℕ × E) → Type 0) → (O → H) → H → List (ℕ × E) → Type 0
-IsStoodFor {O} stands home_of home history = (object : O) × stands object history × (home_of object ≡ home)
+-- an object of this home stands for the history
+abbrev pub IsObjectOf : {O E H : Type 0} → (O → List (ℕ × E) → Type 0) → (O → H) → H → List (ℕ × E) → O → Type 0
+IsObjectOf stands home_of home history object = stands object history × (home_of object ≡ home)
 
 -- One turn of a pass, which found this history and made this entry, or none: it ran on an object of the lock's home that
--- stood for the history, its answer is the turn's there, and the pass has then seen the history with the entry at its end
+-- stood for the history, and left it standing for the history with the entry at its end; of these two, its answer is the
+-- turn's; and the pass has then seen that history
 pub record IsTurn {O E H Out : Type 0} (stands : O → List (ℕ × E) → Type 0) (home_of : O → H)
-    (tells : List (ℕ × E) → Out → Option E → Type 0) (old new : Standing E H) (out : Out) (history : List (ℕ × E)) (entry : Option E) : Type 0 where
+    (tells : O → O → List (ℕ × E) → Out → Option E → Type 0) (old new : PassState E H) (out : Out) (history : List (ℕ × E)) (entry : Option E) : Type 0 where
   pub met : MayMeet old history
-  pub stood : IsStoodFor stands home_of old.site.home history
-  pub answered : tells history out entry
-  pub stands_now : IsStoodFor stands home_of old.site.home (told history old.number entry)
+  pub before : O
+  pub after : O
+  pub stood : IsObjectOf stands home_of old.site.home history before
+  pub stands_now : IsObjectOf stands home_of old.site.home (told history old.number entry) after
+  pub answered : tells before after history out entry
   pub seen : new.seen ≡ told history old.number entry
   pub mine : new.mine ≡ old.mine ++ listed entry
   pub left : new.left + length (listed entry) ≡ old.left

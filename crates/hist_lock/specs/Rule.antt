@@ -13,6 +13,7 @@ use Rattle.hist_lock.specs.declared.rule.Stage.{Stage}
 use Rattle.hist_lock.specs.declared.rule.Stage.TheVariants.{Idle, Waiting, Called, Holding}
 use Rattle.hist_lock.specs.declared.rule.View.{View}
 use Rattle.hist_lock.specs.History.{IsFront, entries_of}
+use Rattle.table_sums.specs.Spread.{IsSpread}
 
 -- the ticket that a seat has at this stage
 abbrev pub drawn : Stage → ℕ → List ℕ
@@ -49,22 +50,18 @@ module _ {E H : Type 0} where
   abbrev pub tickets_of : View E H → List ℕ
   tickets_of v = drawn v.stage v.ticket
 
-  abbrev pub numbers_of : View E H → List ℕ
-  numbers_of v = map (λ c. c.number) v.claims
+  abbrev pub claim_numbers : View E H → List ℕ
+  claim_numbers v = map (λ c. c.number) v.claims
 
   abbrev pub left_of : View E H → ℕ
   left_of v = v.left
-
-  -- each of these numbers stands with one view, once, and the views have no others: they weigh the same, however numbers are weighed
-  abbrev pub IsSpread : (View E H → List ℕ) → List (View E H) → List ℕ → Type 0
-  IsSpread f views numbers = (weight : ℕ → ℕ) → sum_by (λ v. sum_by weight (f v)) views ≡ sum_by weight numbers
 
   -- the view of the first seat, which has dealt no pass yet
   abbrev pub dealer : Bounds H → View E H
   dealer b = record { bounds = Some b; dealt = Some 0; left = b.room; stage = Idle; ticket = 0; claims = [] }
 
   -- what the rule says of one seat
-  pub record Fits (bounds : Bounds H) (serving dealt : ℕ) (log : List (ℕ × E)) (id : ℕ) (v : View E H) : Type 0 where
+  pub record FitsSeat (bounds : Bounds H) (serving dealt : ℕ) (log : List (ℕ × E)) (id : ℕ) (v : View E H) : Type 0 where
     pub of : (b : Bounds H) → v.bounds ≡ Some b → b ≡ bounds
     pub deals : (n : ℕ) → v.dealt ≡ Some n → (id ≡ 0) × (n ≡ dealt)
     pub claims : All (FitsClaim log) v.claims
@@ -96,9 +93,9 @@ pub record OneLog {O E H : Type 0} (bounds : Bounds H) (stands : O → List (ℕ
   pub log : List (ℕ × E)
   pub words : s.words ≡ (serving + waiting) % 2 ^ 64 ∷ serving % 2 ^ 64 ∷ length log ∷ []
   pub tickets : IsSpread tickets_of s.views (range_with_len serving waiting)
-  pub numbers : IsSpread numbers_of s.views (range_with_len 0 dealt)
+  pub numbers : IsSpread claim_numbers s.views (range_with_len 0 dealt)
   pub dealt_in : dealt ≤ bounds.count
   pub room : length log + sum_by left_of s.views ≤ bounds.room
   pub known : All (λ x. x.0 < dealt) log
-  pub seats : (id : ℕ) (v : View E H) → get_elem? s.views id ≡ some v → Fits bounds serving dealt log id v
+  pub seats : (id : ℕ) (v : View E H) → get_elem? s.views id ≡ some v → FitsSeat bounds serving dealt log id v
   pub slot : ((held : Held O E) × (s.homes ≡ some held ∷ []) × IsHome bounds stands home_of log held × IsIn s.views) ⊎ IsOut s.views

@@ -8,13 +8,13 @@ use Rattle.hist_lock.specs.declared.rule.Claim.{Claim}
 use Rattle.hist_lock.specs.declared.rule.Stage.TheVariants.{Idle, Holding}
 use Rattle.hist_lock.specs.declared.rule.View.{View}
 use Rattle.hist_lock.specs.History.{entries_of, told}
-use Rattle.hist_lock.specs.Passes.{Site, Standing}
+use Rattle.hist_lock.specs.Passes.{Site, PassState}
 use Rattle.hist_lock.specs.Rule.{own}
 use Rattle.hist_lock.specs.Steps.{Sat, IsAt, IsFound, with_journal}
 
 -- the seat is one of this table, which is a lock's
-abbrev pub IsOf : TableId → TableId → Type 0
-IsOf seat line = (seat ≡ line) × (line.words ≡ 3) × (line.slots ≡ 1)
+abbrev pub IsSeatOf : TableId → TableId → Type 0
+IsSeatOf seat line = (seat ≡ line) × (line.words ≡ 3) × (line.slots ≡ 1)
 
 abbrev pub IsSameSeat : {S V : Type 0} → Seat S V → Seat S V → Type 0
 IsSameSeat s t = (t.table_id ≡ s.table_id) × (t.id ≡ s.id)
@@ -27,10 +27,10 @@ abbrev pub bounds_in : {E H : Type 0} → H → View E H → Bounds H
 bounds_in anywhere v = unwrap_or v.bounds (record { home = anywhere; room = 0; count = 0 })
 
 -- a pass, as contracts see it
-abbrev pub standing_of : {E H : Type 0} → TableId → Bounds H → ℕ → ℕ → Claim E → Standing E H
-standing_of table bounds number left c = record { site = site_of table bounds; number = number; left = left; seen = c.seen; mine = c.mine }
+abbrev pub pass_state : {E H : Type 0} → TableId → Bounds H → ℕ → ℕ → Claim E → PassState E H
+pass_state table bounds number left c = record { site = site_of table bounds; number = number; left = left; seen = c.seen; mine = c.mine }
 
-abbrev pub claim_of : {E H : Type 0} → Standing E H → Claim E
+abbrev pub claim_of : {E H : Type 0} → PassState E H → Claim E
 claim_of pass = record { number = pass.number; seen = pass.seen; mine = pass.mine }
 
 -- the seat of a pass between its turns
@@ -54,10 +54,10 @@ pub record HasEntered {O E H : Type 0} (stands : O → List (ℕ × E) → Type 
 
 -- the turn ran on the object, and the journal is as it was
 pub record HasRun {O E H Out : Type 0} (stands : O → List (ℕ × E) → Type 0) (home_of : O → H) (can : H → List (ℕ × E) → Type 0)
-    (tells : H → List (ℕ × E) → Out → Option E → Type 0) (who : ℕ) (old new : Held O E) (out : Out) (entry : Option E) : Type 0 where
+    (tells : H → O → O → List (ℕ × E) → Out → Option E → Type 0) (who : ℕ) (old new : Held O E) (out : Out) (entry : Option E) : Type 0 where
   pub journal : new.journal ≡ old.journal
   pub home : home_of new.object ≡ home_of old.object
-  pub ran : (h : List (ℕ × E)) → stands old.object h → can (home_of old.object) h → stands new.object (told h who entry) × tells (home_of old.object) h out entry
+  pub ran : (h : List (ℕ × E)) → stands old.object h → can (home_of old.object) h → stands new.object (told h who entry) × tells (home_of old.object) old.object new.object h out entry
 
 -- the entry is in the journal and in the history, if there is one
 pub record HasNoted {O E H : Type 0} (entry : Option E) (old new : Held O E) (v : View E H) (me : Sat O E H) : Type 0 where
@@ -77,7 +77,7 @@ pub record IsDealer {O E H : Type 0} (bounds : Bounds H) (dealt left : ℕ) (me 
   pub left_is : me.0.left ≡ left
 
 -- the seat has taken in the seats of these passes
-pub record HasGathered {O E H : Type 0} (passes : List (Standing E H)) (me : Sat O E H) : Type 0 where
+pub record HasGathered {O E H : Type 0} (passes : List (PassState E H)) (me : Sat O E H) : Type 0 where
   pub idle : me.0.stage ≡ Idle
   pub empty : me.1 ≡ []
   pub claims : me.0.claims ≡ map claim_of passes

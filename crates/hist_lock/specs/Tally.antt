@@ -2,7 +2,7 @@
 use Rattle.std.specs.Prelude.{◌≡◌, ◌==◌, ℕ, ◌+◌, ◌^◌, ◌<◌, ◌≤◌, List, [], ◌∷◌, length, All, if◌then◌else◌}
 use Rattle.std.specs.List.{sum_by}
 use Rattle.hist_lock.specs.History.{entries_of}
-use Rattle.hist_lock.specs.Passes.{Site, Standing}
+use Rattle.hist_lock.specs.Passes.{Site, PassState}
 
 -- what the entries add up to
 abbrev pub sum_of : List (ℕ × ℕ) → ℕ
@@ -18,9 +18,9 @@ sums_before more number [] = []
 sums_before more number (x ∷ xs) = if x.0 == number then more ∷ sums_before (more + x.1) number xs else sums_before (more + x.1) number xs
 
 -- the pass may add at the lock, and has seen nothing yet; there is room for what it finds
-abbrev pub IsReady : Site ℕ → Standing ℕ ℕ → List ℕ → ℕ → Type 0
-IsReady site pass found room = (pass.site ≡ site) × (pass.left ≤ 10000) × (pass.seen ≡ []) × (found ≡ []) × (pass.left ≤ room)
+abbrev pub MayAdd : Site ℕ → PassState ℕ ℕ → List ℕ → ℕ → Type 0
+MayAdd site pass found room = (pass.site ≡ site) × (pass.left ≤ 10000) × (pass.seen ≡ []) × (found ≡ []) × (pass.left ≤ room)
 
 -- the pass has nothing left, and each of its turns found what the entries before its own add up to
-abbrev pub IsDone : Site ℕ → ℕ → Standing ℕ ℕ → List ℕ → Type 0
+abbrev pub IsDone : Site ℕ → ℕ → PassState ℕ ℕ → List ℕ → Type 0
 IsDone site number pass found = (pass.site ≡ site) × (pass.number ≡ number) × (pass.left ≡ 0) × (found ≡ sums_before 0 number pass.seen) × (entries_of number pass.seen ≡ pass.mine)

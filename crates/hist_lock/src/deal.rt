@@ -2,7 +2,7 @@
 ghost use Rattle.std.specs.Prelude.{◌≡◌, ℕ, ◌+◌, ◌^◌, ◌<◌, ◌≤◌, List, [], ◌∷◌, ◌++◌, length, sum, vec_capacity, IfOk};
 ghost use Rattle.hist_lock.specs.Passes.{fresh, fresh_passes};
 ghost use Rattle.hist_lock.specs.Rule.{bounds_of, dealer};
-ghost use Rattle.hist_lock.specs.Seats.{IsOf, IsSameSeat, IsDealer, site_of};
+ghost use Rattle.hist_lock.specs.Seats.{IsSeatOf, IsSameSeat, IsDealer, site_of};
 
 use crate::pass::Pass;
 use crate::rule::{Held, Line, Place, Quota, Terms, Whole};
@@ -41,7 +41,7 @@ fn deal_one<O: Told, Q: Quota>(
     number: u32,
     quota: u32,
 ) -> Pass<O>
-    requires of { IsOf dealer.old.table_id line.now.table_id }
+    requires of { IsSeatOf dealer.old.table_id line.now.table_id }
     requires quota { quota ≡ Q.quota }
     requires deals { IsDealer (bounds_of O.home terms.now) number dealer.old.me.0.left dealer.old.me }
     requires fits { (number < terms.now.count) × (quota ≤ dealer.old.me.0.left) }
@@ -66,7 +66,7 @@ pub fn deal_all<O: Told>(
     quotas: &[u32],
     mut passes: Vec<Pass<O>>,
 ) -> Vec<Pass<O>>
-    requires of { IsOf seat.table_id line.now.table_id }
+    requires of { IsSeatOf seat.table_id line.now.table_id }
     requires deals { IsDealer (bounds_of O.home terms.now) 0 (sum quotas.now) seat.me }
     requires count { (length quotas.now ≡ terms.now.count) × (length quotas.now < 2 ^ 32) }
     requires none { passes.items ≡ [] }

@@ -6,7 +6,7 @@ ghost use Rattle.hist_lock.specs.declared.rule.Stage.TheVariants.{Idle, Waiting,
 ghost use Rattle.hist_lock.specs.History.{entries_of, listed};
 ghost use Rattle.hist_lock.specs.Rule.{own};
 ghost use Rattle.hist_lock.specs.Steps.{IsAt, at_stage};
-ghost use Rattle.hist_lock.specs.Seats.{IsOf, IsSameSeat, HasEntered, HasRun, HasNoted};
+ghost use Rattle.hist_lock.specs.Seats.{IsSeatOf, IsSameSeat, HasEntered, HasRun, HasNoted};
 
 use crate::rule::{Line, Place};
 use crate::steps::{SERVED, TICKETS, draw, give, look, raise, serve, take};
@@ -16,7 +16,7 @@ use std::sync::Wait;
 
 // Waits until the ticket is served: a short while on the processor, and then asleep.
 fn wait_for<O: Told, R: Wait>(rt: &R, line: &Line<O>, seat: &mut Place<O>, ticket: u64)
-    requires of { IsOf seat.old.table_id line.now.table_id }
+    requires of { IsSeatOf seat.old.table_id line.now.table_id }
     requires waits { IsAt Waiting [] seat.old.me }
     requires ticket { ticket ≡ seat.old.me.0.ticket % 2 ^ 64 }
     ensures same { IsSameSeat seat.old seat.new }
@@ -39,7 +39,7 @@ fn wait_for<O: Told, R: Wait>(rt: &R, line: &Line<O>, seat: &mut Place<O>, ticke
 
 /// Waits for the value and takes it.
 pub fn enter<O: Told, R: Wait>(rt: &R, line: &Line<O>, seat: &mut Place<O>)
-    requires of { IsOf seat.old.table_id line.now.table_id }
+    requires of { IsSeatOf seat.old.table_id line.now.table_id }
     requires idle { IsAt Idle [] seat.old.me }
     ensures same { IsSameSeat seat.old seat.new }
     ensures entered { (held : Held O O.Entry) × HasEntered O.stands O.home seat.old.me.0 held seat.new.me }
@@ -56,7 +56,7 @@ pub fn run<O: Told, T: Turn<O>>(
     who: u32,
     turn: T,
 ) -> (T::Out, Option<O::Entry>)
-    requires of { IsOf seat.old.table_id line.now.table_id }
+    requires of { IsSeatOf seat.old.table_id line.now.table_id }
     requires can { (held : Held O O.Entry) × IsAt Holding ((0, held) ∷ []) seat.old.me × ((h : List (ℕ × O.Entry)) × O.stands held.object h × T.can turn who (O.home held.object) h) }
     ensures same { IsSameSeat seat.old seat.new }
     ensures view { seat.new.me.0 ≡ seat.old.me.0 }
@@ -68,7 +68,7 @@ pub fn run<O: Told, T: Turn<O>>(
 
 // Writes the entry at the end of the journal.
 fn push<O: Told>(line: &Line<O>, seat: &mut Place<O>, who: u32, entry: O::Entry)
-    requires of { IsOf seat.old.table_id line.now.table_id }
+    requires of { IsSeatOf seat.old.table_id line.now.table_id }
     requires room { (held : Held O O.Entry) × (seat.old.me.1 ≡ (0, held) ∷ []) × (length held.journal.items < vec_capacity held.journal) }
     ensures same { IsSameSeat seat.old seat.new }
     ensures view { seat.new.me.0 ≡ seat.old.me.0 }
@@ -86,7 +86,7 @@ pub fn note<O: Told>(
     left: u32,
     entry: Option<O::Entry>,
 ) -> u32
-    requires of { IsOf seat.old.table_id line.now.table_id }
+    requires of { IsSeatOf seat.old.table_id line.now.table_id }
     requires holds { (held : Held O O.Entry) × IsAt Holding ((0, held) ∷ []) seat.old.me × (held.journal.items ≡ (own seat.old.me.0).seen) × (length held.journal.items + length (listed entry) ≤ vec_capacity held.journal) }
     requires who { (own seat.old.me.0).number ≡ who }
     requires exact { entries_of who (own seat.old.me.0).seen ≡ (own seat.old.me.0).mine }
@@ -108,7 +108,7 @@ pub fn note<O: Told>(
 /// Gives the value back and lets the next ticket be served. Who sleeps is woken; who draws a ticket after the look at the
 /// tickets finds itself served, or waits for one who will wake it.
 pub fn leave<O: Told>(line: &Line<O>, seat: &mut Place<O>)
-    requires of { IsOf seat.old.table_id line.now.table_id }
+    requires of { IsSeatOf seat.old.table_id line.now.table_id }
     requires whole { (held : Held O O.Entry) × (b : Bounds O.Home) × IsAt Holding ((0, held) ∷ []) seat.old.me × (seat.old.me.0.bounds ≡ Some b) × (held.journal.items ≡ (own seat.old.me.0).seen) × O.stands held.object held.journal.items × (O.home held.object ≡ b.home) × (b.room ≤ vec_capacity held.journal) }
     ensures same { IsSameSeat seat.old seat.new }
     ensures left { seat.new.me ≡ (at_stage Idle seat.old.me.0, []) }

@@ -1,6 +1,8 @@
 //! The lock.
 ghost use Rattle.std.specs.Prelude.{◌≡◌, ℕ, ◌+◌, ◌^◌, ◌<◌, ◌≤◌, List, [], ◌∷◌, ◌++◌, length, map, sum, All, Contains, Option, Some, None, IfOk};
 ghost use Rattle.hist_lock.specs.History.{IsFront, entries_of};
+ghost use Rattle.std.specs.List.{sum_by, range_with_len};
+ghost use Rattle.table_sums.specs.Spread.{IsNumbering};
 ghost use Rattle.hist_lock.specs.Passes.{MayMeet, IsTurn, fresh_passes};
 
 use crate::deal::{deal_all, lay};
@@ -84,7 +86,7 @@ impl<O: Told> HistLock<O> {
     pub fn look<T: Turn<O>, R: Wait>(&self, rt: &R, pass: &mut Pass<O>, turn: T) -> T::Out
         requires of { pass.old.site ≡ self.now }
         requires can { (h : List (ℕ × O.Entry)) (object : O) → MayMeet pass.old h → O.stands object h → O.home object ≡ pass.old.site.home → T.can turn pass.old.number pass.old.site.home h }
-        requires quiet { (h : List (ℕ × O.Entry)) (out : T.Out) (x : O.Entry) → T.tells turn pass.old.number pass.old.site.home h out (Some x) → ⊥ }
+        requires quiet { (before after : O) (h : List (ℕ × O.Entry)) (out : T.Out) (x : O.Entry) → T.tells turn pass.old.number pass.old.site.home before after h out (Some x) → ⊥ }
         ensures { (h : List (ℕ × O.Entry)) × IsTurn O.stands O.home (T.tells turn pass.old.number pass.old.site.home) pass.old pass.new result h None }
     {
         let line = &self.table.shared;
@@ -103,6 +105,9 @@ impl<O: Told> HistLock<O> {
         ensures home { O.home result.0 ≡ self.home }
         ensures fronts { All (λ p. IsFront p.seen result.1.items) passes.items }
         ensures exact { All (λ p. entries_of p.number result.1.items ≡ p.mine) passes.items }
+        ensures numbers { IsNumbering (map (λ p. p.number) passes.items) self.count }
+        ensures weighs { (weight : ℕ → ℕ) → sum_by weight (map (λ p. p.number) passes.items) ≡ sum_by weight (range_with_len 0 self.count) }
+        ensures room { length result.1.items ≤ self.room }
         ensures others { All (λ x. Contains (map (λ p. p.number) passes.items) x.0) result.1.items }
     {
         let HistLock { table } = self;

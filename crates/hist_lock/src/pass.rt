@@ -8,7 +8,7 @@ use crate::rule::Place;
 use crate::told::Told;
 use std::marker::Model;
 
-/// A pass of a lock. To contracts it is a `Standing`: its lock, its number, how many entries it may still make, the
+/// A pass of a lock. To contracts it is a `PassState`: its lock, its number, how many entries it may still make, the
 /// history that it has seen, and its own entries there. One that is dropped leaves its quota unused, and then the lock
 /// can't be closed.
 pub struct Pass<O: Told> {
@@ -18,13 +18,13 @@ pub struct Pass<O: Told> {
 }
 
 impl<O: Told> Model for Pass<O> {
-    ghost use Rattle.hist_lock.specs.Passes.{Standing};
+    ghost use Rattle.hist_lock.specs.Passes.{PassState};
     ghost use Rattle.hist_lock.specs.Rule.{own};
-    ghost use Rattle.hist_lock.specs.Seats.{bounds_in, standing_of, IsResting};
+    ghost use Rattle.hist_lock.specs.Seats.{bounds_in, pass_state, IsResting};
 
-    ghost Value = { Standing O.Entry O.Home };
+    ghost Value = { PassState O.Entry O.Home };
 
-    ghost view = { λ p. standing_of p.seat.table_id (bounds_in O.anywhere p.seat.me.0) p.number p.left (own p.seat.me.0) };
+    ghost view = { λ p. pass_state p.seat.table_id (bounds_in O.anywhere p.seat.me.0) p.number p.left (own p.seat.me.0) };
 
     ghost invariant = { λ p. IsResting (bounds_in O.anywhere p.seat.me.0) p.number p.left p.seat.me };
 }

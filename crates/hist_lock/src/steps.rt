@@ -5,7 +5,7 @@ ghost use Rattle.hist_lock.specs.declared.rule.Bounds.{Bounds};
 ghost use Rattle.hist_lock.specs.declared.rule.Stage.TheVariants.{Idle, Waiting, Called, Holding};
 ghost use Rattle.hist_lock.specs.Rule.{own};
 ghost use Rattle.hist_lock.specs.Steps.{IsAt, IsFound, drew, at_stage, took, raised, journal_of, joined, dealt_one, newcomer};
-ghost use Rattle.hist_lock.specs.Seats.{IsOf, IsSameSeat};
+ghost use Rattle.hist_lock.specs.Seats.{IsSeatOf, IsSameSeat};
 
 use crate::rule::{Deal, Draw, Gather, Give, Line, Look, Place, Quota, Raise, Serve, Take};
 use crate::told::Told;
@@ -21,7 +21,7 @@ pub const LENGTH: usize = 2;
 
 /// Draws a ticket.
 pub fn draw<O: Told>(line: &Line<O>, seat: &mut Place<O>) -> u64
-    requires of { IsOf seat.old.table_id line.now.table_id }
+    requires of { IsSeatOf seat.old.table_id line.now.table_id }
     requires idle { IsAt Idle [] seat.old.me }
     ensures same { IsSameSeat seat.old seat.new }
     ensures drawn { (ticket : ℕ) × (result ≡ ticket % 2 ^ 64) × (seat.new.me ≡ (drew ticket seat.old.me.0, [])) }
@@ -31,7 +31,7 @@ pub fn draw<O: Told>(line: &Line<O>, seat: &mut Place<O>) -> u64
 
 /// Looks which ticket is served.
 pub fn look<O: Told>(line: &Line<O>, seat: &mut Place<O>) -> u64
-    requires of { IsOf seat.old.table_id line.now.table_id }
+    requires of { IsSeatOf seat.old.table_id line.now.table_id }
     requires waits { IsAt Waiting [] seat.old.me }
     ensures same { IsSameSeat seat.old seat.new }
     ensures called { result ≡ seat.old.me.0.ticket % 2 ^ 64 → seat.new.me ≡ (at_stage Called seat.old.me.0, []) }
@@ -42,7 +42,7 @@ pub fn look<O: Told>(line: &Line<O>, seat: &mut Place<O>) -> u64
 
 /// Takes the value.
 pub fn take<O: Told>(line: &Line<O>, seat: &mut Place<O>)
-    requires of { IsOf seat.old.table_id line.now.table_id }
+    requires of { IsSeatOf seat.old.table_id line.now.table_id }
     requires called { IsAt Called [] seat.old.me }
     ensures same { IsSameSeat seat.old seat.new }
     ensures taken { (held : Held O O.Entry) × (seat.new.me ≡ (took held.journal.items seat.old.me.0, (0, held) ∷ [])) × IsFound O.stands O.home seat.old.me.0 held }
@@ -52,7 +52,7 @@ pub fn take<O: Told>(line: &Line<O>, seat: &mut Place<O>)
 
 /// Raises the length. The entry at the end of the journal takes effect here.
 pub fn raise<O: Told>(line: &Line<O>, seat: &mut Place<O>)
-    requires of { IsOf seat.old.table_id line.now.table_id }
+    requires of { IsSeatOf seat.old.table_id line.now.table_id }
     requires holds { (held : Held O O.Entry) × (x : O.Entry) × IsAt Holding ((0, held) ∷ []) seat.old.me × (held.journal.items ≡ (own seat.old.me.0).seen ++ ((own seat.old.me.0).number, x) ∷ []) }
     requires left { 1 ≤ seat.old.me.0.left }
     ensures same { IsSameSeat seat.old seat.new }
@@ -63,7 +63,7 @@ pub fn raise<O: Told>(line: &Line<O>, seat: &mut Place<O>)
 
 /// Gives the value back.
 pub fn give<O: Told>(line: &Line<O>, seat: &mut Place<O>)
-    requires of { IsOf seat.old.table_id line.now.table_id }
+    requires of { IsSeatOf seat.old.table_id line.now.table_id }
     requires whole { (held : Held O O.Entry) × (b : Bounds O.Home) × IsAt Holding ((0, held) ∷ []) seat.old.me × (seat.old.me.0.bounds ≡ Some b) × (held.journal.items ≡ (own seat.old.me.0).seen) × O.stands held.object held.journal.items × (O.home held.object ≡ b.home) × (b.room ≤ vec_capacity held.journal) }
     ensures same { IsSameSeat seat.old seat.new }
     ensures given { seat.new.me ≡ (at_stage Called seat.old.me.0, []) }
@@ -73,7 +73,7 @@ pub fn give<O: Told>(line: &Line<O>, seat: &mut Place<O>)
 
 /// Lets the next ticket be served.
 pub fn serve<O: Told>(line: &Line<O>, seat: &mut Place<O>) -> u64
-    requires of { IsOf seat.old.table_id line.now.table_id }
+    requires of { IsSeatOf seat.old.table_id line.now.table_id }
     requires called { IsAt Called [] seat.old.me }
     ensures same { IsSameSeat seat.old seat.new }
     ensures served { seat.new.me ≡ (at_stage Idle seat.old.me.0, []) }
@@ -83,7 +83,7 @@ pub fn serve<O: Told>(line: &Line<O>, seat: &mut Place<O>) -> u64
 
 /// Deals the next pass's seat.
 pub fn split<O: Told, Q: Quota>(line: &Line<O>, dealer: &mut Place<O>) -> Place<O>
-    requires of { IsOf dealer.old.table_id line.now.table_id }
+    requires of { IsSeatOf dealer.old.table_id line.now.table_id }
     requires deals { (n : ℕ) × (b : Bounds O.Home) × (dealer.old.me.0.stage ≡ Idle) × (dealer.old.me.0.claims ≡ []) × (dealer.old.me.0.dealt ≡ Some n) × (dealer.old.me.0.bounds ≡ Some b) × (n < b.count) × (Q.quota ≤ dealer.old.me.0.left) }
     ensures same { IsSameSeat dealer.old dealer.new }
     ensures dealt { dealer.new.me ≡ (dealt_one Q.quota dealer.old.me.0, dealer.old.me.1) }
@@ -94,7 +94,7 @@ pub fn split<O: Told, Q: Quota>(line: &Line<O>, dealer: &mut Place<O>) -> Place<
 
 /// Takes in another pass's seat.
 pub fn join<O: Told>(line: &Line<O>, seat: &mut Place<O>, other: Place<O>)
-    requires of { IsOf seat.old.table_id line.now.table_id }
+    requires of { IsSeatOf seat.old.table_id line.now.table_id }
     requires other { (other.table_id ≡ line.now.table_id) × (other.me.1 ≡ []) }
     requires idle { (seat.old.me.0.stage ≡ Idle) × (other.me.0.stage ≡ Idle) }
     ensures same { IsSameSeat seat.old seat.new }

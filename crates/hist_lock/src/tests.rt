@@ -1,6 +1,6 @@
 //! A client: several threads add to one sum.
 ghost use Rattle.std.specs.Prelude.{◌≡◌, ◌≤◌, [], IfOk, vec_capacity};
-ghost use Rattle.hist_lock.specs.Tally.{sum_of, sums_before, IsReady, IsDone};
+ghost use Rattle.hist_lock.specs.Tally.{sum_of, sums_before, MayAdd, IsDone};
 
 use crate::{HistLock, Pass};
 use std::alloc::{AllocError, Global};
@@ -39,19 +39,19 @@ fn add_both<R: Threads + Wait + Sync>(
     b: Done,
 ) -> (Done, Done)
     requires most { lock.now.home ≡ 10000000 }
-    requires a { IsReady lock.now a.pass a.found.items (vec_capacity a.found) }
-    requires b { IsReady lock.now b.pass b.found.items (vec_capacity b.found) }
+    requires a { MayAdd lock.now a.pass a.found.items (vec_capacity a.found) }
+    requires b { MayAdd lock.now b.pass b.found.items (vec_capacity b.found) }
     ensures a { IsDone lock.now a.pass.number result.0.pass result.0.found.items }
     ensures b { IsDone lock.now b.pass.number result.1.pass result.1.found.items }
 {
     join(
         rt,
         move || -> Done
-            requires { (lock.now.home ≡ 10000000) × IsReady lock.now a.pass a.found.items (vec_capacity a.found) }
+            requires { (lock.now.home ≡ 10000000) × MayAdd lock.now a.pass a.found.items (vec_capacity a.found) }
             ensures { IsDone lock.entry.now a.pass.number result.pass result.found.items }
         { add_all(rt, lock, a) },
         move || -> Done
-            requires { (lock.now.home ≡ 10000000) × IsReady lock.now b.pass b.found.items (vec_capacity b.found) }
+            requires { (lock.now.home ≡ 10000000) × MayAdd lock.now b.pass b.found.items (vec_capacity b.found) }
             ensures { IsDone lock.entry.now b.pass.number result.pass result.found.items }
         { add_all(rt, lock, b) },
     )
@@ -139,19 +139,19 @@ fn add_four<R: Threads + Wait + Sync>(
     other: (Done, Done),
 ) -> ((Done, Done), (Done, Done))
     requires most { lock.now.home ≡ 10000000 }
-    requires one { IsReady lock.now one.0.pass one.0.found.items (vec_capacity one.0.found) × IsReady lock.now one.1.pass one.1.found.items (vec_capacity one.1.found) }
-    requires other { IsReady lock.now other.0.pass other.0.found.items (vec_capacity other.0.found) × IsReady lock.now other.1.pass other.1.found.items (vec_capacity other.1.found) }
+    requires one { MayAdd lock.now one.0.pass one.0.found.items (vec_capacity one.0.found) × MayAdd lock.now one.1.pass one.1.found.items (vec_capacity one.1.found) }
+    requires other { MayAdd lock.now other.0.pass other.0.found.items (vec_capacity other.0.found) × MayAdd lock.now other.1.pass other.1.found.items (vec_capacity other.1.found) }
     ensures one { (result.0.0.pass.site ≡ lock.now) × (result.0.1.pass.site ≡ lock.now) }
     ensures other { (result.1.0.pass.site ≡ lock.now) × (result.1.1.pass.site ≡ lock.now) }
 {
     join(
         rt,
         move || -> (Done, Done)
-            requires { (lock.now.home ≡ 10000000) × IsReady lock.now one.0.pass one.0.found.items (vec_capacity one.0.found) × IsReady lock.now one.1.pass one.1.found.items (vec_capacity one.1.found) }
+            requires { (lock.now.home ≡ 10000000) × MayAdd lock.now one.0.pass one.0.found.items (vec_capacity one.0.found) × MayAdd lock.now one.1.pass one.1.found.items (vec_capacity one.1.found) }
             ensures { (result.0.pass.site ≡ lock.entry.now) × (result.1.pass.site ≡ lock.entry.now) }
         { add_both(rt, lock, one.0, one.1) },
         move || -> (Done, Done)
-            requires { (lock.now.home ≡ 10000000) × IsReady lock.now other.0.pass other.0.found.items (vec_capacity other.0.found) × IsReady lock.now other.1.pass other.1.found.items (vec_capacity other.1.found) }
+            requires { (lock.now.home ≡ 10000000) × MayAdd lock.now other.0.pass other.0.found.items (vec_capacity other.0.found) × MayAdd lock.now other.1.pass other.1.found.items (vec_capacity other.1.found) }
             ensures { (result.0.pass.site ≡ lock.entry.now) × (result.1.pass.site ≡ lock.entry.now) }
         { add_both(rt, lock, other.0, other.1) },
     )

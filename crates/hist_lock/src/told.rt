@@ -26,13 +26,13 @@ pub trait Turn<O: Told> {
     // The turn's condition on itself, its pass number, the home and the history.
     ghost can: { Self → ℕ → O.Home → List (ℕ × O.Entry) → Type 0 };
 
-    // Of the same, what the answer is, and which entry is made, if any.
-    ghost tells: { Self → ℕ → O.Home → List (ℕ × O.Entry) → Self.Out → Option O.Entry → Type 0 };
+    // Of the same, and of the object before the turn and after it: what the answer is, and which entry is made, if any.
+    ghost tells: { Self → ℕ → O.Home → O → O → List (ℕ × O.Entry) → Self.Out → Option O.Entry → Type 0 };
 
     /// Leaves the object standing for the history with the entry at its end, or for the same history where it makes none.
     /// It should be short: all other passes wait for it.
     fn run(self, who: u32, object: &mut O) -> (Self::Out, Option<O::Entry>)
         requires { (h : List (ℕ × O.Entry)) × O.stands object.old h × can self who (O.home object.old) h }
         ensures home { O.home object.new ≡ O.home object.old }
-        ensures told { (h : List (ℕ × O.Entry)) → O.stands object.old h → can self who (O.home object.old) h → O.stands object.new (told h who result.1) × tells self who (O.home object.old) h result.0 result.1 };
+        ensures told { (h : List (ℕ × O.Entry)) → O.stands object.old h → can self who (O.home object.old) h → O.stands object.new (told h who result.1) × tells self who (O.home object.old) object.old object.new h result.0 result.1 };
 }

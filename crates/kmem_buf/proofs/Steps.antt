@@ -6,7 +6,7 @@ use Rattle.atomic_table.specs.Table.{Me, Step, keeps, Allows, Splits, Joins}
 use Rattle.atomic_table.proofs.Lists.{at_set}
 use Rattle.kmem_buf.specs.declared.board.View.{View}
 use Rattle.kmem_buf.specs.declared.board.View.TheVariants.{Free, Issued, Met, Out, Clashed, Gone}
-use Rattle.kmem_buf.specs.Board.{Fits, IsKept, Agrees, met, issued_part, out_part, Noted, Ended, IsStub, IsMeeting}
+use Rattle.kmem_buf.specs.Board.{FitsPlace, AreTied, Agrees, met, issued_part, out_part, Noted, Ended, IsStub, IsMeeting}
 
 -- what stands in a list that grew by one, with its place
 pub at_snoc_place : {A : Type 0} (l : List A) (a b : A) (j : ℕ) → get_elem? (l ++ a ∷ []) j ≡ some b → (get_elem? l j ≡ some b) ⊎ ((j ≡ length l) × (a ≡ b))
@@ -16,7 +16,7 @@ at_snoc_place (x ∷ xs) a b zero e = inl e
 at_snoc_place (x ∷ xs) a b (suc j) e = ⊎_elim inl (λ (t : (j ≡ length xs) × (a ≡ b)). inr (ap suc t.0, t.1)) (at_snoc_place xs a b j e)
 
 -- a view at neither place fits any rule
-elsewhere : (stub slip i : ℕ) (out : Option (List ℕ)) (u : View) → i ≢ stub → i ≢ slip → Fits stub slip out i u → (stub' slip' : ℕ) (out' : Option (List ℕ)) → Fits stub' slip' out' i u
+elsewhere : (stub slip i : ℕ) (out : Option (List ℕ)) (u : View) → i ≢ stub → i ≢ slip → FitsPlace stub slip out i u → (stub' slip' : ℕ) (out' : Option (List ℕ)) → FitsPlace stub' slip' out' i u
 elsewhere stub slip i out (Free f) ns nl h stub' slip' out' = absurd (ns h.0)
 elsewhere stub slip i out (Issued f) ns nl h stub' slip' out' = absurd (ns h.0)
 elsewhere stub slip i out (Met f g) ns nl h stub' slip' out' = absurd (ns h.0)
@@ -25,7 +25,7 @@ elsewhere stub slip i out Clashed ns nl h stub' slip' out' = absurd h
 elsewhere stub slip i out Gone ns nl h stub' slip' out' = tt
 
 -- with no slip out, a view away from the stub's place fits any rule
-idle : (stub slip i : ℕ) (out : Option (List ℕ)) (u : View) → out ≡ none → i ≢ stub → Fits stub slip out i u → (stub' slip' : ℕ) (out' : Option (List ℕ)) → Fits stub' slip' out' i u
+idle : (stub slip i : ℕ) (out : Option (List ℕ)) (u : View) → out ≡ none → i ≢ stub → FitsPlace stub slip out i u → (stub' slip' : ℕ) (out' : Option (List ℕ)) → FitsPlace stub' slip' out' i u
 idle stub slip i out (Free f) off ns h stub' slip' out' = absurd (ns h.0)
 idle stub slip i out (Issued f) off ns h stub' slip' out' = absurd (ns h.0)
 idle stub slip i out (Met f g) off ns h stub' slip' out' = absurd (ns h.0)
@@ -34,29 +34,29 @@ idle stub slip i out Clashed off ns h stub' slip' out' = absurd h
 idle stub slip i out Gone off ns h stub' slip' out' = tt
 
 -- one view changes, and the others fit the new rule too
-one_changes : (views : List View) (id : ℕ) (w : View) (stub slip : ℕ) (out : Option (List ℕ)) → ((i : ℕ) (u : View) → i ≢ id → get_elem? views i ≡ some u → Fits stub slip out i u) → Fits stub slip out id w
-    → (i : ℕ) (u : View) → get_elem? (set views id w) i ≡ some u → Fits stub slip out i u
+one_changes : (views : List View) (id : ℕ) (w : View) (stub slip : ℕ) (out : Option (List ℕ)) → ((i : ℕ) (u : View) → i ≢ id → get_elem? views i ≡ some u → FitsPlace stub slip out i u) → FitsPlace stub slip out id w
+    → (i : ℕ) (u : View) → get_elem? (set views id w) i ≡ some u → FitsPlace stub slip out i u
 one_changes views id w stub slip out others mine i u e =
     ⊎_elim
-    (λ (x : (i ≡ id) × (w ≡ u)). subst (λ (y : ℕ × View). Fits stub slip out y.0 y.1) (λ k. (sym x.0 k, x.1 k)) mine)
+    (λ (x : (i ≡ id) × (w ≡ u)). subst (λ (y : ℕ × View). FitsPlace stub slip out y.0 y.1) (λ k. (sym x.0 k, x.1 k)) mine)
     (λ (x : (i ≢ id) × (get_elem? views i ≡ some u)). others i u x.0 x.1)
     (at_set views id i w u e)
 
 -- a new seat comes last, and the others fit the new rule too
-one_comes : (views : List View) (w : View) (stub slip : ℕ) (out : Option (List ℕ)) → ((i : ℕ) (u : View) → get_elem? views i ≡ some u → Fits stub slip out i u) → Fits stub slip out (length views) w
-    → (i : ℕ) (u : View) → get_elem? (views ++ w ∷ []) i ≡ some u → Fits stub slip out i u
+one_comes : (views : List View) (w : View) (stub slip : ℕ) (out : Option (List ℕ)) → ((i : ℕ) (u : View) → get_elem? views i ≡ some u → FitsPlace stub slip out i u) → FitsPlace stub slip out (length views) w
+    → (i : ℕ) (u : View) → get_elem? (views ++ w ∷ []) i ≡ some u → FitsPlace stub slip out i u
 one_comes views w stub slip out others mine i u e =
     ⊎_elim
     (λ (x : get_elem? views i ≡ some u). others i u x)
-    (λ (x : (i ≡ length views) × (w ≡ u)). subst (λ (y : ℕ × View). Fits stub slip out y.0 y.1) (λ k. (sym x.0 k, x.1 k)) mine)
+    (λ (x : (i ≡ length views) × (w ≡ u)). subst (λ (y : ℕ × View). FitsPlace stub slip out y.0 y.1) (λ k. (sym x.0 k, x.1 k)) mine)
     (at_snoc_place views w u i e)
 
 -- the table starts with a stub that is not issued
-pub begins : (f : List ℕ) → IsKept (Free f ∷ [])
+pub begins : (f : List ℕ) → AreTied (Free f ∷ [])
 begins f = record { stub = 0; slip = 0; out = none; fits = one }
   where
-    one : (i : ℕ) (v : View) → get_elem? (Free f ∷ []) i ≡ some v → Fits 0 0 none i v
-    one zero v e = subst (Fits 0 0 none 0) (some-injective (Free f) v e) (refl, refl)
+    one : (i : ℕ) (v : View) → get_elem? (Free f ∷ []) i ≡ some v → FitsPlace 0 0 none i v
+    one zero v e = subst (FitsPlace 0 0 none 0) (some-injective (Free f) v e) (refl, refl)
     one (suc i) v e = absurd (some-ne-none v (sym e))
 
 -- split a seat: the first seat becomes the key, and a new one is the stub's
@@ -112,7 +112,7 @@ joins_issued id f other g s h at apart there =
       out = none;
       fits = one_changes now other Gone h.stub h.slip none
           (λ j v far e'. ⊎_elim
-          (λ (t : (j ≡ id) × (Met f g ≡ v)). subst (λ (y : ℕ × View). Fits h.stub h.slip none y.0 y.1) (λ k. (sym t.0 k, t.1 k)) (mine.0, refl, same))
+          (λ (t : (j ≡ id) × (Met f g ≡ v)). subst (λ (y : ℕ × View). FitsPlace h.stub h.slip none y.0 y.1) (λ k. (sym t.0 k, t.1 k)) (mine.0, refl, same))
           (λ (t : (j ≢ id) × (get_elem? s.views j ≡ some v)). elsewhere h.stub h.slip j h.out v (λ is. t.0 (is ∙ sym mine.0)) (λ is. far (is ∙ sym theirs.0)) (h.fits j v t.1) h.stub h.slip none)
           (at_set s.views id j (Met f g) v e')) tt;
     }

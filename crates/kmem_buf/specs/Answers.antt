@@ -2,7 +2,7 @@
 use Rattle.std.specs.Prelude.{◌≡◌, ℕ, Bool, true, List, [], ◌∷◌, All}
 use Rattle.atomic_table.specs.Seated.{TableId}
 use Rattle.kmem_buf.specs.Buffers.{BufState}
-use Rattle.kmem_buf.specs.Homes.{IsOf}
+use Rattle.kmem_buf.specs.Homes.{IsBufferOf}
 use Rattle.kmem_buf.specs.declared.client.Answer.{Answer}
 use Rattle.kmem_buf.specs.declared.client.Answer.TheVariants as answer
 use Rattle.kmem_buf.specs.declared.client.Verdict.{Verdict}
@@ -17,12 +17,12 @@ verdict_of (answer.DontNeed b c) = verdict.DontNeed
 verdict_of (answer.DontKnow b) = verdict.DontKnow
 
 -- the buffers that an answer hands back
-abbrev pub handed_back : {K X : Type 0} → Answer K X → List (BufState X)
-handed_back (answer.Yes b) = b ∷ []
-handed_back (answer.No b) = b ∷ []
-handed_back (answer.Later b) = b ∷ []
-handed_back (answer.DontNeed b c) = b ∷ c ∷ []
-handed_back (answer.DontKnow b) = b ∷ []
+abbrev pub buffers_back : {K X : Type 0} → Answer K X → List (BufState X)
+buffers_back (answer.Yes b) = b ∷ []
+buffers_back (answer.No b) = b ∷ []
+buffers_back (answer.Later b) = b ∷ []
+buffers_back (answer.DontNeed b c) = b ∷ c ∷ []
+buffers_back (answer.DontKnow b) = b ∷ []
 
 -- the numbers of the buffers that an answer of this kind hands back, where the object was asked to move from one to another
 abbrev pub numbers_back : Verdict → ℕ → ℕ → List ℕ
@@ -40,7 +40,7 @@ numbers_of (b ∷ bs) = b.number ∷ numbers_of bs
 -- the answer hands back the buffers of its kind, each constructed and of these cells
 abbrev pub IsAnswerTo : {K X : Type 0} → (X → Type 0) → List TableId → ℕ → ℕ → Answer K X → Type 0
 IsAnswerTo constructed cells from to a =
-    (numbers_of (handed_back a) ≡ numbers_back (verdict_of a) from to) × All (λ b. constructed b.object × IsOf cells b) (handed_back a)
+    (numbers_of (buffers_back a) ≡ numbers_back (verdict_of a) from to) × All (λ b. constructed b.object × IsBufferOf cells b) (buffers_back a)
 
 -- for each of the five answers, whether it was ever given (this project's own)
 pub record Flags : Type 0 where

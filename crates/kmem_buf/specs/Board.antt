@@ -31,24 +31,24 @@ is_issued Clashed = false
 is_issued Gone = false
 
 -- what a view at the place i may be, where one place is the stub's, one the slip's, and `out` has the facts of the slip that is out
-abbrev pub Fits : ℕ → ℕ → Option (List ℕ) → ℕ → View → Type 0
-Fits stub slip out i (Free f) = (i ≡ stub) × (out ≡ none)
-Fits stub slip out i (Issued f) = (i ≡ stub) × (out ≡ some f)
-Fits stub slip out i (Met f g) = (i ≡ stub) × (out ≡ none) × (f ≡ g)
-Fits stub slip out i (Out f) = (i ≡ slip) × (out ≡ some f)
-Fits stub slip out i Clashed = ⊥
-Fits stub slip out i Gone = Unit {0}
+abbrev pub FitsPlace : ℕ → ℕ → Option (List ℕ) → ℕ → View → Type 0
+FitsPlace stub slip out i (Free f) = (i ≡ stub) × (out ≡ none)
+FitsPlace stub slip out i (Issued f) = (i ≡ stub) × (out ≡ some f)
+FitsPlace stub slip out i (Met f g) = (i ≡ stub) × (out ≡ none) × (f ≡ g)
+FitsPlace stub slip out i (Out f) = (i ≡ slip) × (out ≡ some f)
+FitsPlace stub slip out i Clashed = ⊥
+FitsPlace stub slip out i Gone = Unit {0}
 
 -- one seat at most is a stub's and one a slip's. Where there is a slip, the stub is issued with its facts, and what a stub has met had its facts
-pub record IsKept (views : List View) : Type 0 where
+pub record AreTied (views : List View) : Type 0 where
   pub stub : ℕ
   pub slip : ℕ
   pub out : Option (List ℕ)
-  pub fits : (i : ℕ) (v : View) → get_elem? views i ≡ some v → Fits stub slip out i v
+  pub fits : (i : ℕ) (v : View) → get_elem? views i ≡ some v → FitsPlace stub slip out i v
 
 -- the rule of the table: it speaks of the views alone
 abbrev pub Agrees : State (Unit {0}) View → Type 0
-Agrees s = IsKept s.views
+Agrees s = AreTied s.views
 
 -- the stub's view where it takes in that of a slip
 abbrev pub met : View → View → View

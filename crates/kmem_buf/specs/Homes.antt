@@ -11,8 +11,8 @@ pub record Homes : Type 0 where
   pub moves : List TableId
 
 -- the buffer is of these cells: its home is the one that stands at its number
-abbrev pub IsOf : {X : Type 0} → List TableId → BufState X → Type 0
-IsOf cells b = slice_get cells b.number ≡ Some b.home
+abbrev pub IsBufferOf : {X : Type 0} → List TableId → BufState X → Type 0
+IsBufferOf cells b = slice_get cells b.number ≡ Some b.home
 
 -- the homes of these cells
 abbrev pub cell_homes : List CellState → List TableId

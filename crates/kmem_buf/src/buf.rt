@@ -1,7 +1,7 @@
 //! Owned buffers, and the cells that they come from.
 ghost use Rattle.std.specs.Prelude.{◌≡◌, true, false, IfOk};
 ghost use Rattle.std.specs.Borrow.{Lends, sem};
-ghost use Rattle.kmem_buf.specs.Homes.{IsOf};
+ghost use Rattle.kmem_buf.specs.Homes.{IsBufferOf};
 
 use crate::kind::Kind;
 use crate::stub::{Slip, Stub};
@@ -88,7 +88,7 @@ pub trait Cells<K: Kind> {
 
     /// Shows that the buffer is out.
     fn meet(&mut self, buf: &mut Buf<K>)
-        requires { IsOf (cells self.old) buf.old }
+        requires { IsBufferOf (cells self.old) buf.old }
         ensures out { is_out self.old buf.old.number ≡ true }
         ensures cells { self.new ≡ self.old }
         ensures buf { buf.new ≡ buf.old };

@@ -1,6 +1,6 @@
 //! Moves: what a client answers.
 ghost use Rattle.std.specs.Prelude.{◌≡◌, ℕ, ◌+◌, ◌%◌, ◌^◌, ◌<◌, Option, length};
-ghost use Rattle.kmem_buf.specs.Homes.{Homes, IsOf};
+ghost use Rattle.kmem_buf.specs.Homes.{Homes, IsBufferOf};
 ghost use Rattle.kmem_buf.specs.Answers.{Flags, verdict_of, flagged, IsAnswerTo, brought_by, fetched_by};
 ghost use Rattle.kmem_buf.specs.declared.client.Verdict.{Verdict};
 
@@ -56,7 +56,7 @@ pub trait MoveClient<K: Kind> {
     /// Asks whether the object in the buffer `from` could move to the buffer `to`.
     fn ask<R: Wait>(&mut self, rt: &R, from: u32, to: Buf<K>) -> Answer<K>
         requires from { from < length (home self.old).cells }
-        requires to { IsOf (home self.old).cells to × K.constructed to.object }
+        requires to { IsBufferOf (home self.old).cells to × K.constructed to.object }
         requires counts { (brought self.old < 2 ^ 62) × (fetched self.old < 2 ^ 62) }
         ensures buffers { IsAnswerTo K.constructed (home self.old).cells from to.number result }
         ensures stays { (home self.new ≡ home self.old) × (sign self.new ≡ sign self.old) }

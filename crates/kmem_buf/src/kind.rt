@@ -5,7 +5,8 @@ use std::alloc::AllocError;
 
 /// A kind of objects: how one is made and unmade. Objects are handed out constructed and come back constructed.
 pub trait Kind {
-    type Object: Drop + Send;
+    /// Whoever hands buffers to another thread asks for `Send` at the kind that it has.
+    type Object: Drop;
 
     // What is true of an object between two uses.
     ghost constructed: { Self.Object → Type 0 };

@@ -1,5 +1,7 @@
 //! Stubs and slips: what ties an object, as one behind a lock, to a holder outside.
-ghost use Rattle.std.specs.Prelude.{◌≡◌, true, false, [], ◌∷◌, IfOk};
+ghost use Rattle.std.specs.Prelude.{◌≡◌, true, false, [], ◌∷◌, length, IfOk};
+ghost use Rattle.kmem_buf.specs.Homes.{stub_homes};
+ghost use Rattle.kmem_buf.specs.Stubs.{AreUnissued};
 
 use crate::board::{Board, Opens, Place, View, cut, note, take_in};
 use crate::twice::never_twice;
@@ -63,6 +65,19 @@ impl Stub {
         })
     }
 
+    /// So many stubs, none of them issued. All memory that they and their slips will ever need is taken here.
+    pub fn create_all(alloc: Global, count: u32) -> Result<Vec<Stub>, AllocError>
+        ensures count { IfOk result (λ stubs. length stubs.items ≡ count) }
+        ensures homes { IfOk result (λ stubs. length (stub_homes stubs.items) ≡ count) }
+        ensures free { IfOk result (λ stubs. AreUnissued stubs.items) }
+    {
+        let mut stubs = Vec::with_capacity(alloc, count as usize)?;
+        for _ in 0..count {
+            stubs.push_reserved(Stub::create(alloc)?);
+        }
+        Ok(stubs)
+    }
+
     /// Issues the stub with these facts. Who has the slip knows that the stub has them until the slip comes back.
     pub fn issue(&mut self, facts: [u64; 3]) -> Slip
         requires { self.old.issued ≡ false }
@@ -87,6 +102,17 @@ impl Stub {
         let Slip { seat, key } = slip;
         take_in(&table.shared, &mut self.seat, seat);
         self.key = key;
+    }
+
+    /// Takes the slip back and issues the stub again, with other facts. The stub was issued with the facts of the slip.
+    pub fn reissue(&mut self, slip: Slip, facts: [u64; 3]) -> Slip
+        requires { slip.home ≡ self.old.home }
+        ensures was { self.old ≡ record { home = slip.home; issued = true; facts = slip.facts } }
+        ensures stub { self.new ≡ record { home = self.old.home; issued = true; facts = facts } }
+        ensures slip { result ≡ record { home = self.old.home; facts = facts } }
+    {
+        self.redeem(slip);
+        self.issue(facts)
     }
 
     /// Shows that the stub is issued with the facts of the slip.

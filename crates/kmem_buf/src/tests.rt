@@ -95,6 +95,23 @@ impl<R: Room> Shelf<R> {
         self.item
     }
 
+    fn exchange(&mut self, ticket: Ticket<R>, next: u64) -> Ticket<R>
+        ensures ticket { result ≡ next }
+        ensures shelf { self.new ≡ (next, self.old.1) }
+    {
+        let Ticket {
+            item: _,
+            slip,
+            room: _,
+        } = ticket;
+        self.item = next;
+        Ticket {
+            item: next,
+            slip: self.stub.reissue(slip, [next, 0, 0]),
+            room: PhantomData,
+        }
+    }
+
     fn take_back(&mut self, ticket: Ticket<R>, next: u64) -> u64
         ensures item { result ≡ ticket }
         ensures shelf { self.new ≡ (next, false) }
@@ -158,8 +175,8 @@ fn a_slip_crosses_threads(rt: HostRuntime) -> Result<(), Fail> {
     Ok(())
 }
 
-// Lends the item, looks twice, takes it back, and lends the next.
-fn lent_twice<R: Room>(stub: Stub) -> Option<[u64; 4]>
+// Lends the item, looks twice, takes it back, lends the next, and exchanges that.
+fn lent_twice<R: Room>(stub: Stub) -> Option<[u64; 5]>
     requires { (stub.issued ≡ false) × (stub.home ≡ R.home) }
 {
     let mut shelf = Shelf::<R>::new(7, stub);
@@ -168,13 +185,19 @@ fn lent_twice<R: Room>(stub: Stub) -> Option<[u64; 4]>
     let again = shelf.look(&mut ticket);
     let back = shelf.take_back(ticket, 8);
     let ticket = shelf.lend()?;
-    let next = shelf.take_back(ticket, 9);
-    Some([first, again, back, next])
+    let mut ticket = shelf.exchange(ticket, 9);
+    let next = shelf.look(&mut ticket);
+    let last = shelf.take_back(ticket, 10);
+    Some([first, again, back, next, last])
 }
 
 #[test]
 fn a_stub_is_issued_again(rt: HostRuntime) -> Result<(), Fail> {
-    let stub = Stub::create(rt.alloc())?;
-    assert_eq!(rt; lent_twice::<Brand>(stub), Some([7, 7, 7, 8]));
+    let mut stubs = Stub::create_all(rt.alloc(), 2)?;
+    assert_eq!(rt; stubs.len(), 2);
+    let Some(stub) = stubs.pop() else {
+        return Ok(());
+    };
+    assert_eq!(rt; lent_twice::<Brand>(stub), Some([7, 7, 7, 9, 9]));
     Ok(())
 }

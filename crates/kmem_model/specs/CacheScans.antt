@@ -40,15 +40,3 @@ is_round es = ends_idle es || (list_all is_begin es && length es == 64)
 abbrev pub has_rounds : List CacheEntry → Bool
 has_rounds [] = true
 has_rounds (e ∷ es) = (if is_scan e then is_round (take_while (λ x. not (is_scan x)) es) else true) && has_rounds es
-
--- the history has exactly this many scans of this kind, by passes from `workers` on, each with its round.
--- Where one pass makes all of them, no move is pending just before any, nor at the end
-pub record Scanned (start : CacheState) (history : List (ℕ × CacheEntry)) (workers scans : ℕ) (desperate : Bool) : Type 0 where
-  pub number : count_by (λ e. is_scan e.1) history ≡ scans
-  pub kind : All (λ e. is_scan e.1 ≡ true → (e.1 ≡ Scan desperate) × (workers ≤ e.0)) history
-  pub rounds : (pass : ℕ) → workers ≤ pass → has_rounds (scan_entries pass history) ≡ true
-  pub done_before : (pass : ℕ) → All (λ e. is_scan e.1 ≡ true → e.0 ≡ pass) history →
-      (front rest : List (ℕ × CacheEntry)) (kind : Bool) → history ≡ front ++ ((pass, Scan kind) ∷ rest) →
-      IfSome (state_after start front) (λ s. pending_count s ≡ 0)
-  pub done_at_end : (pass : ℕ) → All (λ e. is_scan e.1 ≡ true → e.0 ≡ pass) history →
-      IfSome (state_after start history) (λ s. pending_count s ≡ 0)

@@ -1,7 +1,7 @@
 -- What the tests hold.
 use Rattle.std.specs.Prelude.{ℕ, ◌≡◌, List, All, length}
 use Rattle.kmem_buf.specs.Buffers.{BufState}
-use Rattle.kmem_buf.specs.Homes.{Homes, IsOf}
+use Rattle.kmem_buf.specs.Homes.{Homes, IsBufferOf}
 use Rattle.kmem_model.specs.CacheState.{CacheState}
 
 -- a cache of so many slabs of so many buffers
@@ -11,4 +11,4 @@ pub record HasSizes (n k : ℕ) (s : CacheState) : Type 0 where
 
 -- each buffer is of these homes, and holds a constructed object, which is 0
 abbrev pub AreHeld : Homes → List (BufState ℕ) → Type 0
-AreHeld home held = All (λ buf. IsOf home.cells buf × (buf.object ≡ 0)) held
+AreHeld home held = All (λ buf. IsBufferOf home.cells buf × (buf.object ≡ 0)) held

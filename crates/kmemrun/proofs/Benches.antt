@@ -9,12 +9,12 @@ use Rattle.kmem_text.specs.declared.command.Command.{Command}
 use Rattle.kmem_text.specs.declared.command.Reply.{Reply}
 use Rattle.kmem_model.specs.Records.{held_at}
 use Rattle.kmem_model.specs.RecordStep.{IsInRange}
-use Rattle.kmem_model.specs.Heap.{HeapState, address_in, address_of, hold_at, object_at, places_of, is_leftover}
+use Rattle.kmem_model.specs.Heap.{least_left_in, HeapState, address_in, address_of, hold_at, object_at, places_of, is_leftover}
 use Rattle.kmem_model.specs.CacheState.{CacheState}
 use Rattle.kmem_model.specs.One.{OneState, one_step, one_workers}
 use Rattle.kmem_model.specs.OneStands.{OneStands, OneEnds}
 use Rattle.kmem_buf.specs.Homes.{Homes}
-use Rattle.record_heap.specs.View.{HeapView, HoldState, IsHoldAt, IsFrame, least_leftover}
+use Rattle.record_heap.specs.View.{HeapView, HoldState, IsHoldAt, IsFrame}
 use Rattle.kmem_model.specs.CacheOrder.{least_below}
 use Rattle.std.specs.Option.{option_or}
 use Rattle.std.proofs.lemmas.List.Sums.{sum_by-set}
@@ -199,7 +199,7 @@ one_less xs i there =
     inside (y ∷ ys) (suc j) e = omega (arith, inside ys j e)
 
 -- where the least leftover lies there is an object
-pub place_there : (h : HeapState) (b : ℕ) → least_leftover h ≡ Some b → get_or (places_of h) b false ≡ true
+pub place_there : (h : HeapState) (b : ℕ) → least_left_in h ≡ Some b → get_or (places_of h) b false ≡ true
 place_there h b e = mapped h.objects b ∙ leftover_there (object_at h b) (found (length h.objects) (λ n. is_leftover (object_at h n)) b e)
   where
     mapped : (xs : List (Option Object)) (i : ℕ) → get_or (map is_some xs) i false ≡ is_some (get_or xs i None)

@@ -24,8 +24,8 @@ abbrev pub empty_layer : {A : Type 0} → Layer A
 empty_layer = record { loaded = []; previous = [] }
 
 -- all rounds, in the order in which they come out
-abbrev pub rounds : {A : Type 0} → Layer A → List A
-rounds l = l.loaded ++ l.previous
+abbrev pub layer_rounds : {A : Type 0} → Layer A → List A
+layer_rounds l = l.loaded ++ l.previous
 
 -- what a take gives, and the layer after it: loaded is popped, after an exchange where it is empty and previous is full
 abbrev pub take_from : {A : Type 0} → List A → List A → Option A × Layer A
@@ -42,3 +42,11 @@ put_past x loaded (y ∷ previous) = (Err x, record { loaded = loaded; previous 
 abbrev pub put_to : {A : Type 0} → A → List A → List A → Result (Unit {0}) A × Layer A
 put_to x loaded previous =
     (if nat_lt (length loaded) 8 then (Ok tt, record { loaded = x ∷ loaded; previous = previous }) else put_past x loaded previous)
+
+-- a full layer once an empty magazine came in: the old previous has left
+abbrev pub relieved : {A : Type 0} → List A → Layer A → Layer A
+relieved empty l = record { loaded = empty; previous = l.loaded }
+
+-- a layer whose loaded is empty, once a full magazine came in behind the other: the empty one has left
+abbrev pub restored : {A : Type 0} → List A → Layer A → Layer A
+restored full l = record { loaded = l.previous; previous = full }

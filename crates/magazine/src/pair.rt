@@ -1,6 +1,7 @@
 //! A worker's two magazines.
 ghost use Rattle.std.specs.Prelude.{◌≡◌, ◌<◌, [], ◌∷◌, length, IfOk, MatchOption, MatchResult};
-ghost use Rattle.magazine.specs.Layer.{IsFull, IsLayer, empty_layer, rounds, take_from, put_to};
+ghost use Rattle.magazine.specs.Layer.{IsFull, IsLayer, Layer, empty_layer, layer_rounds, take_from, put_to, relieved, restored};
+ghost use Rattle.kmem_buf.specs.Buffers.{BufState};
 
 use crate::rounds::{ROUNDS, Rounds};
 use kmem_buf::{Buffer, Kind};
@@ -47,7 +48,7 @@ impl<X: Drop> Pair<X> {
     pub fn take(&mut self) -> Option<Buffer<X>>
         ensures result { result ≡ (take_from self.old.loaded self.old.previous).0 }
         ensures layer { self.new ≡ (take_from self.old.loaded self.old.previous).1 }
-        ensures stack { MatchOption result (rounds self.old ≡ []) (λ b. rounds self.old ≡ b ∷ rounds self.new) }
+        ensures stack { MatchOption result (layer_rounds self.old ≡ []) (λ b. layer_rounds self.old ≡ b ∷ layer_rounds self.new) }
         ensures kept { IsLayer self.new }
     {
         if self.loaded.len() == 0 {
@@ -60,7 +61,7 @@ impl<X: Drop> Pair<X> {
     pub fn put(&mut self, buf: Buffer<X>) -> Result<(), Buffer<X>>
         ensures result { result ≡ (put_to buf self.old.loaded self.old.previous).0 }
         ensures layer { self.new ≡ (put_to buf self.old.loaded self.old.previous).1 }
-        ensures stack { MatchResult result (λ _. (length (rounds self.old) < 16) × (rounds self.new ≡ buf ∷ rounds self.old)) (λ back. (back ≡ buf) × IsFull self.old.loaded × IsFull self.old.previous × (self.new ≡ self.old)) }
+        ensures stack { MatchResult result (λ _. (length (layer_rounds self.old) < 16) × (layer_rounds self.new ≡ buf ∷ layer_rounds self.old)) (λ back. (back ≡ buf) × IsFull self.old.loaded × IsFull self.old.previous × (self.new ≡ self.old)) }
         ensures kept { IsLayer self.new }
     {
         if self.loaded.len() == ROUNDS {
@@ -87,9 +88,20 @@ impl<X: Drop> Pair<X> {
     pub fn relieve(&mut self, empty: Rounds<X>) -> Rounds<X>
         requires full { IsFull self.old.loaded × IsFull self.old.previous }
         requires empty { empty ≡ [] }
-        ensures layer { self.new ≡ record { loaded = empty; previous = self.old.loaded } }
+        ensures layer { self.new ≡ relieved empty self.old }
         ensures result { result ≡ self.old.previous }
     {
         replace(&mut self.previous, replace(&mut self.loaded, empty))
+    }
+
+    /// Undoes `relieve`: takes the full magazine in again, and answers the empty one.
+    pub fn put_back(&mut self, full: Rounds<X>) -> Rounds<X>
+        requires relieved { (self.old.loaded ≡ []) × IsFull self.old.previous }
+        requires full { IsFull full }
+        ensures layer { self.new ≡ restored full self.old }
+        ensures result { result ≡ self.old.loaded }
+        ensures undone { (l : Layer (BufState X)) → self.old ≡ relieved [] l → full ≡ l.previous → self.new ≡ l }
+    {
+        replace(&mut self.loaded, replace(&mut self.previous, full))
     }
 }

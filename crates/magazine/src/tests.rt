@@ -4,6 +4,7 @@ use kmem_buf::{Buf, Cell, Kind};
 use std::alloc::{AllocError, Global};
 use std::mem::swap;
 use std::test::Fail;
+use std::thread::{Threads, join};
 
 // Its objects are constructed at 0.
 struct Zeros;
@@ -62,6 +63,54 @@ fn magazines_come_in_and_go_out(rt: HostRuntime) -> Result<(), Fail> {
         assert_eq!(rt; empty.len(), 0);
     }
     assert_eq!(rt; number_of(cpu.take()), Some(7));
+    Ok(())
+}
+
+#[test]
+fn relieve_is_undone(rt: HostRuntime) -> Result<(), Fail> {
+    let mut cpu = Cpu::<Zeros>::create(rt.alloc())?;
+    for number in 1..=16 {
+        assert!(rt; cpu.put(buffer(rt.alloc(), number)?).is_ok());
+    }
+    let Err(spare) = cpu.put(buffer(rt.alloc(), 17)?) else {
+        panic!(rt; "a seventeenth went in");
+    };
+    let full = cpu.relieve(Magazine::<Zeros>::create(rt.alloc())?);
+    let empty = cpu.put_back(full);
+    assert_eq!(rt; (empty.len(), spare.number()), (0, 17));
+    for number in 0..16 {
+        assert_eq!(rt; number_of(cpu.take()), Some(16 - number));
+    }
+    Ok(())
+}
+
+// A worker's magazines go to another thread, which takes from them, and come back.
+fn taken_elsewhere<R: Threads>(
+    rt: &R,
+    mut cpu: Cpu<Zeros>,
+    mut magazine: Magazine<Zeros>,
+) -> (Cpu<Zeros>, Magazine<Zeros>, Option<u32>, Option<u32>) {
+    let (back, ()) = join(
+        rt,
+        move || {
+            let first = number_of(cpu.take());
+            let second = number_of(magazine.pop());
+            (cpu, magazine, first, second)
+        },
+        || (),
+    );
+    back
+}
+
+#[test]
+fn magazines_cross_threads(rt: HostRuntime) -> Result<(), Fail> {
+    let mut cpu = Cpu::<Zeros>::create(rt.alloc())?;
+    assert!(rt; cpu.put(buffer(rt.alloc(), 5)?).is_ok());
+    let mut magazine = Magazine::<Zeros>::create(rt.alloc())?;
+    magazine.push(buffer(rt.alloc(), 6)?);
+    let (mut cpu, magazine, first, second) = taken_elsewhere(&rt, cpu, magazine);
+    assert_eq!(rt; (first, second), (Some(5), Some(6)));
+    assert_eq!(rt; (number_of(cpu.take()), magazine.len()), (None, 0));
     Ok(())
 }
 

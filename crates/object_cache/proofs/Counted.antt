@@ -4,7 +4,7 @@ use Rattle.std.specs.Bool.{if◌then◌else◌}
 use Rattle.std.proofs.lemmas.List.Sums.{sum_by_more, sum_by-take-le, sum_by-le, count_by-le-length}
 use Rattle.kmem_model.specs.CacheState.{SlabState, slab_at, no_slab, is_listed, used, free_buffers}
 use Rattle.kmem_model.specs.CacheOrder.{is_partial}
-use Rattle.slab_list.specs.Slabs.{ListState, IsWhole, IsSlab}
+use Rattle.slab_list.specs.Slabs.{ListState, IsListWhole, IsSlab}
 
 -- the free buffers of a slab, if it is listed
 abbrev pub free_on : SlabState → ℕ
@@ -14,7 +14,7 @@ free_on slab = if is_listed slab then free_buffers slab else 0
 abbrev pub free_partial : SlabState → ℕ
 free_partial slab = if is_partial slab then free_buffers slab else 0
 
-few_by : (s : ListState) → IsWhole s → (f : SlabState → ℕ) → ((slab : SlabState) → f slab ≤ length slab.out) → sum_by f s.slabs ≤ 65536
+few_by : (s : ListState) → IsListWhole s → (f : SlabState → ℕ) → ((slab : SlabState) → f slab ≤ length slab.out) → sum_by f s.slabs ≤ 65536
 few_by s w f low =
     omega (
       arith,
@@ -24,7 +24,7 @@ few_by s w f low =
       w.few,
     )
 
-pub more_by : (s : ListState) → IsWhole s → (f : SlabState → ℕ) → ((slab : SlabState) → f slab ≤ length slab.out) → (i : ℕ) → i < length s.slabs →
+pub more_by : (s : ListState) → IsListWhole s → (f : SlabState → ℕ) → ((slab : SlabState) → f slab ≤ length slab.out) → (i : ℕ) → i < length s.slabs →
     sum_by f (take i s.slabs) + f (slab_at s.slabs i) ≤ 65536
 more_by s w f low i below =
     omega (arith, sum_by_more f s.slabs i no_slab below, sum_by-take-le f s.slabs (i + 1), few_by s w f low)

@@ -14,7 +14,7 @@ use Rattle.kmem_model.specs.CacheOrder.{least_below, wanted, first_partial_free,
 use Rattle.kmem_model.specs.CacheEnter.{is_full}
 use Rattle.kmem_model.specs.declared.cache_state.Standing.{Standing}
 use Rattle.kmem_model.specs.declared.cache_state.Standing.TheVariants.{Source, Listed, Dead}
-use Rattle.slab_list.specs.Slabs.{ListState, IsFree, IsWhole, IsSlab, free_next, is_unused}
+use Rattle.slab_list.specs.Slabs.{ListState, IsFree, IsListWhole, IsSlab, free_next, is_unused}
 use Rattle.object_cache.specs.Stock.{bare, IsStocked}
 use Rattle.object_cache.proofs.Lists.{map_none, free_below, not_all}
 use Rattle.object_cache.proofs.Freed.{listed_within}
@@ -54,7 +54,7 @@ module _ (list : ListState) (source : SourceState) (stocked : IsStocked list.sla
       no true = refl
       no false = refl
 
-  module _ (whole : IsWhole list) where
+  module _ (whole : IsListWhole list) where
     size : (i : ℕ) → i < length list.slabs → length (slab_at list.slabs i).out ≡ list.chunks
     size i below = let slab : IsSlab list.chunks (slab_at list.slabs i) = whole.slabs i no_slab below in slab.size
 

@@ -5,7 +5,7 @@ use Rattle.atomic_table.specs.Seated.{TableId, table_id_coded}
 use Rattle.std.specs.Coded.{Coded, code_by, coded×, coded_ℕ}
 use Rattle.kmem_buf.specs.Stubs.{StubState}
 use Rattle.kmem_buf.specs.Buffers.{BufState, buf_code}
-use Rattle.kmem_buf.specs.Homes.{Homes, IsOf}
+use Rattle.kmem_buf.specs.Homes.{Homes, IsBufferOf}
 use Rattle.kmem_model.specs.CacheOrder.{is_of_move}
 use Rattle.kmem_model.specs.declared.cache_state.PendingMove.{PendingMove}
 
@@ -45,7 +45,7 @@ IsMoveOf stubs p = slice_get stubs p.slot ≡ Some p.home
 -- the job is of these homes, and its new buffer holds a constructed object
 pub record IsJobOf {X : Type 0} (constructed : X → Type 0) (home : Homes) (job : JobState X) : Type 0 where
   pub move : IsMoveOf home.moves job.move
-  pub buf : IsOf home.cells job.buf
+  pub buf : IsBufferOf home.cells job.buf
   pub to : job.buf.number ≡ job.move.to
   pub ready : constructed job.buf.object
 

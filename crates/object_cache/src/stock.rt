@@ -1,7 +1,7 @@
 //! The slabs of a cache, with the source that they come from.
 ghost use Rattle.std.specs.Prelude.{◌≡◌, ◌≤◌, ◌<◌, ◌*◌, ◌/◌, ◌%◌, ℕ, true, false, Some, None, nat_lt, length, replicate, IfOk, IfSome, IsNone, All, map};
 ghost use Rattle.std.specs.FinSet as set;
-ghost use Rattle.kmem_buf.specs.Homes.{IsOf};
+ghost use Rattle.kmem_buf.specs.Homes.{IsBufferOf};
 ghost use Rattle.kmem_model.specs.CacheState.{slab_at, slab_in_source, is_listed, free_buffers};
 ghost use Rattle.kmem_model.specs.CacheOrder.{wanted, first_partial_free};
 ghost use Rattle.kmem_model.specs.CacheEnter.{is_full, slab_taken, slab_freed, slab_listed, slab_answered, slab_given_back, unmarked};
@@ -48,7 +48,7 @@ impl<K> Model for Stock<K> {
 impl<K> Stock<K> {
     /// Shows that the buffer is out.
     pub fn meet<X>(&mut self, buf: &mut Buffer<X>)
-        requires { IsOf self.old.cells buf.old }
+        requires { IsBufferOf self.old.cells buf.old }
         ensures out { is_out_in self.old buf.old.number ≡ true }
         ensures list { self.new ≡ self.old }
         ensures buf { buf.new ≡ buf.old }
@@ -116,7 +116,7 @@ impl<K: Kind> Stock<K> {
         requires { IsRoom self.old room }
         ensures wanted { wanted (bare self.old) ≡ Some result.number }
         ensures list { self.new ≡ on_buffer self.old result.number slab_taken }
-        ensures buf { (result.object ≡ object) × IsOf self.old.cells result }
+        ensures buf { (result.object ≡ object) × IsBufferOf self.old.cells result }
     {
         let number = open(&mut self.list, &mut self.supply, room);
         self.list.take(number, object)
@@ -151,7 +151,7 @@ impl<K: Kind> Stock<K> {
     /// Takes the buffer back, and answers its object. A slab with no buffer out any more is dead from then on where a move is
     /// pending, and else goes back to the source.
     pub fn give(&mut self, buf: Buf<K>, is_pending: bool) -> K::Object
-        requires { IsOf self.old.cells buf }
+        requires { IsBufferOf self.old.cells buf }
         ensures was { is_out_in self.old buf.number ≡ true }
         ensures list { self.new ≡ on_buffer self.old buf.number (slab_freed (emptied_to is_pending)) }
         ensures object { result ≡ buf.object }

@@ -5,7 +5,7 @@ use Rattle.std.proofs.lemmas.Option.{slice_get_within}
 use Rattle.std.proofs.lemmas.Bool.{cases_eq, cases_lt}
 use Rattle.atomic_table.specs.Seated.{TableId}
 use Rattle.kmem_buf.specs.Buffers.{BufState}
-use Rattle.kmem_buf.specs.Homes.{IsOf}
+use Rattle.kmem_buf.specs.Homes.{IsBufferOf}
 use Rattle.kmem_model.specs.Heap.{Object}
 use Rattle.record_heap.specs.Shelves.{ShelfState, AreShelved, objects_of}
 use Rattle.record_heap.specs.Tags.{TagsState}
@@ -38,7 +38,7 @@ some_is x y e = cc
 none_is : (x : BufState Object) → ◌≡◌ {A = Option (BufState Object)} None (Some x) → ⊥
 none_is x e = cc
 
-pub shelved_put : (cells : List TableId) (bufs : List (Option (BufState Object))) (n : ℕ) (b : BufState Object) → AreShelved cells bufs → b.number ≡ n → IsOf cells b → AreShelved cells (set bufs n (Some b))
+pub shelved_put : (cells : List TableId) (bufs : List (Option (BufState Object))) (n : ℕ) (b : BufState Object) → AreShelved cells bufs → b.number ≡ n → IsBufferOf cells b → AreShelved cells (set bufs n (Some b))
 shelved_put cells bufs n b kept number of =
     record {
       size = length-set bufs n (Some b) ∙ kept.size;
@@ -47,7 +47,7 @@ shelved_put cells bufs n b kept number of =
           ⊎_elim
           (λ same.
           let at : Some b ≡ Some d = sym (get_or-set_same bufs n (Some b) None (omega (arith, kept.size, subst (λ k. k < length cells) number (slice_get_within cells b.number b.home of)))) ∙ (ap (λ k. get_or (set bufs n (Some b)) k None) (sym same) ∙ is) in
-          subst (λ (e : BufState Object). (e.number ≡ i) × IsOf cells e) (some_is b d at) (number ∙ sym same, of))
+          subst (λ (e : BufState Object). (e.number ≡ i) × IsBufferOf cells e) (some_is b d at) (number ∙ sym same, of))
           (λ apart. kept.placed i d (sym (get_or-set_other bufs n i (Some b) None apart) ∙ is)) (cases_eq i n);
     }
 
@@ -67,7 +67,7 @@ pub objects_set : (bufs : List (Option (BufState Object))) (n : ℕ) (o : Option
 objects_set bufs n o = map-set (option_map (λ (b : BufState Object). b.object)) bufs n o
 
 -- two buffers of one number are of one cell
-pub one_home : (cells : List TableId) (a b : BufState Object) → IsOf cells a → IsOf cells b → a.number ≡ b.number → a.home ≡ b.home
+pub one_home : (cells : List TableId) (a b : BufState Object) → IsBufferOf cells a → IsBufferOf cells b → a.number ≡ b.number → a.home ≡ b.home
 one_home cells a b of_a of_b same = homes a.home b.home (sym of_a ∙ (ap (slice_get cells) same ∙ of_b))
   where
     homes : (x y : TableId) → ◌≡◌ {A = Option TableId} (Some x) (Some y) → x ≡ y

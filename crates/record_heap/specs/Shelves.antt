@@ -2,7 +2,7 @@
 use Rattle.std.specs.Prelude.{ℕ, ◌≡◌, ◌≤◌, List, Option, Some, None, option_map, map, length, slice_index_or}
 use Rattle.atomic_table.specs.Seated.{TableId}
 use Rattle.kmem_buf.specs.Buffers.{BufState}
-use Rattle.kmem_buf.specs.Homes.{Homes, IsOf}
+use Rattle.kmem_buf.specs.Homes.{Homes, IsBufferOf}
 use Rattle.kmem_model.specs.Heap.{Object}
 
 -- the object at each number, and the homes of the cache whose buffers these are
@@ -18,4 +18,4 @@ objects_of bufs = map (option_map (λ (b : BufState Object). b.object)) bufs
 pub record AreShelved (cells : List TableId) (bufs : List (Option (BufState Object))) : Type 0 where
   pub size : length bufs ≡ length cells
   pub few : length bufs ≤ 65536
-  pub placed : (n : ℕ) (b : BufState Object) → slice_index_or bufs n None ≡ Some b → (b.number ≡ n) × IsOf cells b
+  pub placed : (n : ℕ) (b : BufState Object) → slice_index_or bufs n None ≡ Some b → (b.number ≡ n) × IsBufferOf cells b

@@ -1,13 +1,13 @@
 //! The parts of a heap: each call is one change of names, tags and objects, or one look at them.
 ghost use Rattle.std.specs.Prelude.{◌≡◌, ◌≤◌, ◌<◌, ◌+◌, ◌*◌, ◌^◌, ◌==◌, ◌&&◌, ℕ, Bool, true, false, Some, None, is_some, nat_le, nat_lt, option_map, length, map, replicate, slice_index_or, slice_set, if◌then◌else◌, IfOk, IfSome};
 ghost use Rattle.std.specs.List.{list_any};
-ghost use Rattle.kmem_buf.specs.Homes.{IsOf};
+ghost use Rattle.kmem_buf.specs.Homes.{IsBufferOf};
 ghost use Rattle.kmem_model.specs.CacheOrder.{is_the, least_below};
 ghost use Rattle.kmem_model.specs.Records.{tag_place};
-ghost use Rattle.kmem_model.specs.Heap.{Object, blank, address_of, hold_at, object_at, is_leftover};
+ghost use Rattle.kmem_model.specs.Heap.{least_left_in, Object, blank, address_of, hold_at, object_at, is_leftover};
 ghost use Rattle.kmem_model.specs.Says.{says, relocated};
 ghost use Rattle.record_heap.specs.Objects.{held_less, is_unused};
-ghost use Rattle.record_heap.specs.View.{IsHoldAt, least_leftover};
+ghost use Rattle.record_heap.specs.View.{IsHoldAt};
 ghost use Rattle.record_heap.specs.Changes.{value_in, names_in, holds_in, with_object, changed_at, with_tag, valued, fixed_at, linked, unlinked, tagged, made};
 ghost use Rattle.record_heap.specs.Answers.{said_of};
 
@@ -134,7 +134,7 @@ impl Parts {
 
     /// The least address of a leftover.
     pub fn first_leftover(&self) -> Option<u32>
-        ensures least { result ≡ least_leftover self.now.heap }
+        ensures least { result ≡ least_left_in self.now.heap }
         ensures found { IfSome result (λ b. is_leftover (object_at self.now.heap b) ≡ true) }
     {
         self.shelf.first_leftover()
@@ -153,7 +153,7 @@ impl Parts {
 
     /// Shows that there is no object at the number of the buffer.
     pub fn show_empty(&mut self, buf: Buf<RecordKind>) -> Buf<RecordKind>
-        requires { IsOf self.old.home.cells buf }
+        requires { IsBufferOf self.old.home.cells buf }
         ensures range { buf.number < length self.old.heap.objects }
         ensures empty { object_at self.old.heap buf.number ≡ None }
         ensures buf { result ≡ buf }
@@ -210,7 +210,7 @@ impl Parts {
     /// A new record with this name and value is in the buffer, whose place was empty.
     pub fn make(&mut self, name: NameId, value: Value, buf: Buf<RecordKind>)
         requires name { name.0 < length self.old.heap.names }
-        requires buf { IsOf self.old.home.cells buf × (buf.object ≡ blank) }
+        requires buf { IsBufferOf self.old.home.cells buf × (buf.object ≡ blank) }
         ensures range { buf.number < length self.old.heap.objects }
         ensures empty { object_at self.old.heap buf.number ≡ None }
         ensures parts { self.new ≡ record self.old { heap = made self.old.heap name.0 buf.number value } }
@@ -236,7 +236,7 @@ impl Parts {
     pub fn take_out(&mut self, b: u32) -> Buf<RecordKind>
         requires { is_some (object_at self.old.heap b) ≡ true }
         ensures parts { self.new ≡ record self.old { heap = with_object self.old.heap b None } }
-        ensures buf { (result.number ≡ b) × IsOf self.old.home.cells result }
+        ensures buf { (result.number ≡ b) × IsBufferOf self.old.home.cells result }
         ensures object { object_at self.old.heap b ≡ Some result.object }
     {
         self.shelf.take(b)
@@ -246,7 +246,7 @@ impl Parts {
     pub fn end(&mut self, b: u32) -> Buf<RecordKind>
         requires { is_some (object_at self.old.heap b) ≡ true }
         ensures parts { self.new ≡ record self.old { heap = with_object self.old.heap b None } }
-        ensures buf { (result.number ≡ b) × IsOf self.old.home.cells result }
+        ensures buf { (result.number ≡ b) × IsBufferOf self.old.home.cells result }
         ensures object { result.object ≡ blank }
     {
         let mut buf = self.shelf.take(b);
@@ -268,10 +268,10 @@ impl Parts {
     pub fn relocate(&mut self, from: u32, to: Buf<RecordKind>) -> Buf<RecordKind>
         requires object { is_some (object_at self.old.heap from) ≡ true }
         requires names { (name : ℕ) → list_any (λ other. other == name) (names_in self.old.heap from) ≡ is_the (address_of self.old.heap name) from }
-        requires to { IsOf self.old.home.cells to × (to.object ≡ blank) }
+        requires to { IsBufferOf self.old.home.cells to × (to.object ≡ blank) }
         ensures empty { object_at self.old.heap to.number ≡ None }
         ensures parts { self.new ≡ record self.old { heap = relocated self.old.heap from to.number } }
-        ensures buf { (result.number ≡ from) × IsOf self.old.home.cells result × (result.object ≡ blank) }
+        ensures buf { (result.number ≡ from) × IsBufferOf self.old.home.cells result × (result.object ≡ blank) }
     {
         let mut to = self.show_empty(to);
         let mut old = self.shelf.take(from);
@@ -285,9 +285,9 @@ impl Parts {
 
     /// Whether the worker's tag is in use.
     pub fn is_used(&self, worker: u32, tag: Tag) -> bool
-        requires worker { 1 ≤ worker }
-        requires range { tag_place worker tag.0 < length self.now.heap.tags }
-        ensures { result ≡ is_some (hold_at self.now.heap (tag_place worker tag.0)) }
+        requires { (1 ≤ worker) × (8 * worker ≤ length self.now.heap.tags) }
+        ensures used { result ≡ is_some (hold_at self.now.heap (tag_place worker tag)) }
+        ensures low { tag_place worker tag < 8 * worker }
     {
         self.tags.at(place_of(worker, tag)).is_some()
     }
@@ -295,13 +295,12 @@ impl Parts {
     /// The worker's tag holds the record at the address from then on.
     pub fn hold(&mut self, worker: u32, tag: Tag, b: u32) -> Hold
         requires worker { 1 ≤ worker }
-        requires tag { tag.0 < 8 }
-        requires range { tag_place worker tag.0 < length self.old.heap.tags }
-        requires idle { hold_at self.old.heap (tag_place worker tag.0) ≡ None }
+        requires range { tag_place worker tag < length self.old.heap.tags }
+        requires idle { hold_at self.old.heap (tag_place worker tag) ≡ None }
         requires object { is_some (object_at self.old.heap b) ≡ true }
         requires few { holds_in self.old.heap b + 1 < 2 ^ 32 }
-        ensures parts { self.new ≡ record self.old { heap = tagged self.old.heap (tag_place worker tag.0) b } }
-        ensures hold { (result.worker ≡ worker) × (result.tag ≡ tag.0) × (result.address ≡ b) × IsHoldAt self.old.holds result }
+        ensures parts { self.new ≡ record self.old { heap = tagged self.old.heap (tag_place worker tag) b } }
+        ensures hold { (result.worker ≡ worker) × (result.tag ≡ tag) × (result.address ≡ b) × IsHoldAt self.old.holds result }
     {
         let hold = self.tags.hold(worker, tag, b);
         let mut buf = self.shelf.take(b);

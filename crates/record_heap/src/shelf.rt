@@ -1,6 +1,6 @@
 //! Objects in buffers, by number.
 ghost use Rattle.std.specs.Prelude.{◌≡◌, ◌≤◌, ◌<◌, true, Some, None, is_some, length, replicate, slice_set, slice_index_or, IfOk, IfSome};
-ghost use Rattle.kmem_buf.specs.Homes.{IsOf};
+ghost use Rattle.kmem_buf.specs.Homes.{IsBufferOf};
 ghost use Rattle.kmem_model.specs.CacheOrder.{least_below};
 ghost use Rattle.kmem_model.specs.Heap.{is_leftover};
 
@@ -86,7 +86,7 @@ impl Shelf {
 
     /// Puts the buffer at its number, where there is none: no two buffers of one number are out.
     pub fn put(&mut self, buf: Buf<RecordKind>)
-        requires { IsOf self.old.home.cells buf }
+        requires { IsBufferOf self.old.home.cells buf }
         ensures range { buf.number < length self.old.objects }
         ensures empty { slice_index_or self.old.objects buf.number None ≡ None }
         ensures shelf { self.new ≡ record self.old { objects = slice_set self.old.objects buf.number (Some buf.object) } }
@@ -103,7 +103,7 @@ impl Shelf {
         requires { is_some (slice_index_or self.old.objects b None) ≡ true }
         ensures object { slice_index_or self.old.objects b None ≡ Some result.object }
         ensures number { result.number ≡ b }
-        ensures of { IsOf self.old.home.cells result }
+        ensures of { IsBufferOf self.old.home.cells result }
         ensures shelf { self.new ≡ record self.old { objects = slice_set self.old.objects b None } }
     {
         match self.bufs[b as usize].take() {

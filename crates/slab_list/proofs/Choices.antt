@@ -8,10 +8,10 @@ use Rattle.std.proofs.lemmas.List.{get_or_default}
 use Rattle.std.proofs.lemmas.List.Sums.{sum_by-cons}
 use Rattle.kmem_model.specs.CacheState.{SlabState, slab_at, no_slab, is_listed, used, free_buffers, is_out_on}
 use Rattle.kmem_model.specs.CacheOrder.{least_below, foremost, IsLeastBelow, IsForemost, IsOrder, is_partial, comes_before, first_partial, least_free, first_partial_free, first_of_slab}
-use Rattle.slab_list.specs.Slabs.{slab_with, is_out_in, IsFree, ListState, IsWhole, IsSlab, free_next, is_unused}
+use Rattle.slab_list.specs.Slabs.{slab_with, is_out_in, IsFree, ListState, IsListWhole, IsSlab, free_next, is_unused}
 
 -- every slab has as many buffers
-pub slab_size : (s : ListState) → IsWhole s → (i : ℕ) → i < length s.slabs → length (slab_at s.slabs i).out ≡ s.chunks
+pub slab_size : (s : ListState) → IsListWhole s → (i : ℕ) → i < length s.slabs → length (slab_at s.slabs i).out ≡ s.chunks
 slab_size s w i below = let slab : IsSlab s.chunks (slab_at s.slabs i) = w.slabs i no_slab below in slab.size
 
 -- where each is out, all are counted
@@ -121,7 +121,7 @@ module _ (least_is : (n k : ℕ) (t : ℕ → Bool) → (least_below n t ≡ Som
         (λ listed.
         full_from (is_listed (slab_at s.slabs i)) (used (slab_at s.slabs i)) (length (slab_at s.slabs i).out) listed partial unused)
 
-    none_from : IsWhole s → All (λ slab. is_listed slab ≡ true → free_buffers slab ≡ 0) s.slabs → free_next s ≡ None
+    none_from : IsListWhole s → All (λ slab. is_listed slab ≡ true → free_buffers slab ≡ 0) s.slabs → free_next s ≡ None
     none_from w full =
         ap₂ (λ a b. option_or (option_and_then (λ j. option_map (λ k. j * s.chunks + k) (least_free (slab_at s.slabs j))) a) (option_map (λ i. i * s.chunks) b))
         ((no_first_is (length s.slabs) (λ j. is_partial (slab_at s.slabs j)) (comes_before s.slabs) (order s.slabs)).1
@@ -131,5 +131,5 @@ module _ (least_is : (n k : ℕ) (t : ℕ → Bool) → (least_below n t ≡ Som
         not_unused (is_listed (slab_at s.slabs i)) (used (slab_at s.slabs i)) (length (slab_at s.slabs i).out)
         (omega (arith, slab_size s w i below, w.some)) (full i no_slab below)))
 
-    pub none_free : IsWhole s → (o : Option ℕ) → o ≡ free_next s → (o ≡ None) ↔ All (λ slab. is_listed slab ≡ true → free_buffers slab ≡ 0) s.slabs
+    pub none_free : IsListWhole s → (o : Option ℕ) → o ≡ free_next s → (o ≡ None) ↔ All (λ slab. is_listed slab ≡ true → free_buffers slab ≡ 0) s.slabs
     none_free w o is = ((λ none. none_to (sym is ∙ none)), (λ full. is ∙ none_from w full))

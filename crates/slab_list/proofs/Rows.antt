@@ -8,8 +8,8 @@ use Rattle.kmem_buf.specs.Buffers.{CellState}
 use Rattle.kmem_buf.specs.Homes.{cell_homes}
 use Rattle.kmem_model.specs.CacheState.{SlabState, slab_at, no_slab, is_out_on}
 use Rattle.slab_list.specs.declared.line.Line.{Line}
-use Rattle.slab_list.specs.Lines.{row_at, slab_of, slabs_of, IsLine, IsKept}
-use Rattle.slab_list.specs.Slabs.{IsSlab, IsWhole}
+use Rattle.slab_list.specs.Lines.{row_at, slab_of, slabs_of, IsLine, IsListKept}
+use Rattle.slab_list.specs.Slabs.{IsSlab, IsListWhole}
 
 pub length-slabs_of : (chunks : ℕ) (cells : List CellState) (lines : List Line) → length (slabs_of chunks cells lines) ≡ length lines
 length-slabs_of chunks cells [] = refl
@@ -71,7 +71,7 @@ placed chunks n b some below =
     record { slab = div_below b chunks n some below; index = mod_below b chunks some; number = div-add-mod' b chunks }
 
 -- what holds of the fields holds of the slabs
-module _ (chunks : ℕ) (cells : List CellState) (lines : List Line) (kept : IsKept chunks cells lines) where
+module _ (chunks : ℕ) (cells : List CellState) (lines : List Line) (kept : IsListKept chunks cells lines) where
   abbrev slabs : List SlabState
   slabs = slabs_of chunks cells lines
 
@@ -110,7 +110,7 @@ module _ (chunks : ℕ) (cells : List CellState) (lines : List Line) (kept : IsK
         blank = λ idle. (sym l.counted ∙ (l.blank idle).0, (l.blank idle).1, (l.blank idle).2);
       }
 
-  pub whole : IsWhole (record { chunks = chunks; slabs = slabs; cells = cell_homes cells })
+  pub whole : IsListWhole (record { chunks = chunks; slabs = slabs; cells = cell_homes cells })
   whole =
       record {
         some = kept.some;
@@ -148,7 +148,7 @@ module _ (chunks : ℕ) (cells : List CellState) (lines : List Line) (kept : IsK
       ∙ sym (get_or-set_other slabs i j (slab_of l (row_at chunks cells i)) no_slab other)))
       (cases_eq j i))
 
-  pub kept_line : (i : ℕ) (l : Line) → i < length lines → IsLine chunks l (row_at chunks cells i) → IsKept chunks cells (set lines i l)
+  pub kept_line : (i : ℕ) (l : Line) → i < length lines → IsLine chunks l (row_at chunks cells i) → IsListKept chunks cells (set lines i l)
   kept_line i l below good =
       record {
         some = kept.some;
@@ -206,7 +206,7 @@ module _ (chunks : ℕ) (cells : List CellState) (lines : List Line) (kept : IsK
         ∙ sym (get_or-set_other slabs i j (slab_of l row) no_slab other)))
         (cases_eq j i))
 
-    pub kept_cell : c.number ≡ b → IsLine chunks l row → IsKept chunks (set cells b c) (set lines i l)
+    pub kept_cell : c.number ≡ b → IsLine chunks l row → IsListKept chunks (set cells b c) (set lines i l)
     kept_cell number good =
         let p : IsAt chunks (length lines) b = at b below in
         record {

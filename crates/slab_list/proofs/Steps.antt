@@ -16,7 +16,7 @@ use Rattle.kmem_model.specs.CacheEnter.{slab_listed, slab_taken, slab_freed, sla
 use Rattle.kmem_model.specs.declared.cache_state.Standing.{Standing}
 use Rattle.kmem_model.specs.declared.cache_state.Standing.TheVariants.{Source, Listed, Dead}
 use Rattle.slab_list.specs.declared.line.Line.{Line}
-use Rattle.slab_list.specs.Lines.{row_at, slab_of, slabs_of, IsLine, IsKept, line_freed}
+use Rattle.slab_list.specs.Lines.{row_at, slab_of, slabs_of, IsLine, IsListKept, line_freed}
 use Rattle.slab_list.specs.Slabs.{ListState, on_slab, on_buffer, fresh_slab}
 use Rattle.slab_list.proofs.Rows.{row_within, slab_at-slabs_of, length-row_at, get_or-row_at, IsAt, at, out_by_cell, slabs_of-line, slabs_of-cell, homes_kept}
 
@@ -72,7 +72,7 @@ stuck_maybe : (chunks k j : ℕ) (b : Bool) (o : Option ℕ) → ((m : ℕ) → 
 stuck_maybe chunks k j true o old below e = stuck_after chunks k j o old below e
 stuck_maybe chunks k j false o old below e = old j e
 
-module _ (chunks : ℕ) (cells : List CellState) (lines : List Line) (kept : IsKept chunks cells lines) where
+module _ (chunks : ℕ) (cells : List CellState) (lines : List Line) (kept : IsListKept chunks cells lines) where
   -- one line, as it was read
   module _ (i : ℕ) (x : Line) (read : x ≡ get_or lines i x) (below : i < length lines) where
     pub line_kept : IsLine chunks x (row_at chunks cells i)

@@ -7,7 +7,7 @@ use Rattle.kmem_buf.specs.Buffers.{CellState}
 use Rattle.kmem_model.specs.CacheState.{SlabState, no_slab, slab_in_source}
 use Rattle.kmem_model.specs.CacheEnter.{unmarked}
 use Rattle.slab_list.specs.declared.line.Line.{Line}
-use Rattle.slab_list.specs.Lines.{row_at, slab_of, slabs_of, IsLine, IsKept, AreFree, line_unmarked, line_in_source}
+use Rattle.slab_list.specs.Lines.{row_at, slab_of, slabs_of, IsLine, IsListKept, AreCellsFree, line_unmarked, line_in_source}
 use Rattle.slab_list.proofs.Rows.{length-slabs_of, slab_at-slabs_of, length-row_at, get_or-row_at, row_within}
 
 pub slabs_unmarked : (chunks : ℕ) (cells : List CellState) (lines : List Line) →
@@ -16,7 +16,7 @@ slabs_unmarked chunks cells [] = refl
 slabs_unmarked chunks cells (l ∷ ls) =
     ap (λ (slabs : List SlabState). unmarked (slab_of l (take chunks cells)) ∷ slabs) (slabs_unmarked chunks (drop chunks cells) ls)
 
-pub kept_unmarked : (chunks : ℕ) (cells : List CellState) (lines : List Line) → IsKept chunks cells lines → IsKept chunks cells (map line_unmarked lines)
+pub kept_unmarked : (chunks : ℕ) (cells : List CellState) (lines : List Line) → IsListKept chunks cells lines → IsListKept chunks cells (map line_unmarked lines)
 kept_unmarked chunks cells lines kept =
     record {
       some = kept.some;
@@ -31,7 +31,7 @@ kept_unmarked chunks cells lines kept =
     }
 
 -- free cells, and lines of slabs in the source
-module _ (chunks slabs : ℕ) (cells : List CellState) (some : 0 < chunks) (few : slabs * chunks ≤ 65536) (size : length cells ≡ slabs * chunks) (free : AreFree cells) where
+module _ (chunks slabs : ℕ) (cells : List CellState) (some : 0 < chunks) (few : slabs * chunks ≤ 65536) (size : length cells ≡ slabs * chunks) (free : AreCellsFree cells) where
   free_row : (i : ℕ) → i < slabs → map (λ (c : CellState). c.out) (row_at chunks cells i) ≡ replicate chunks false
   free_row i below =
       let d : CellState = record { number = 0; out = false; home = nowhere } in
@@ -56,7 +56,7 @@ module _ (chunks slabs : ℕ) (cells : List CellState) (some : 0 < chunks) (few 
       ∙ (ap (λ (out : List Bool). record (slab_in_source chunks) { out = out }) (free_row i below)
       ∙ sym (get_or-replicate slabs i (slab_in_source chunks) no_slab below))))
 
-  pub kept_start : IsKept chunks cells (replicate slabs line_in_source)
+  pub kept_start : IsListKept chunks cells (replicate slabs line_in_source)
   kept_start =
       record {
         some = some;

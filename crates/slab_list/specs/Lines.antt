@@ -27,7 +27,7 @@ pub record IsLine (chunks : ℕ) (line : Line) (row : List CellState) : Type 0 w
   pub stuck : (k : ℕ) → line.stuck ≡ Some k → k < chunks
 
 -- what always holds of the fields
-pub record IsKept (chunks : ℕ) (cells : List CellState) (lines : List Line) : Type 0 where
+pub record IsListKept (chunks : ℕ) (cells : List CellState) (lines : List Line) : Type 0 where
   pub some : 0 < chunks
   pub few : length cells ≤ 65536
   pub whole : length cells ≡ length lines * chunks
@@ -51,6 +51,6 @@ abbrev pub line_in_source : Line
 line_in_source = record { standing = Source; used = 0; later = 0; stuck = None }
 
 -- cells numbered from 0, whose buffers are free
-abbrev pub AreFree : List CellState → Type 0
-AreFree cells =
+abbrev pub AreCellsFree : List CellState → Type 0
+AreCellsFree cells =
     (n : ℕ) (d : CellState) → n < length cells → ((slice_index_or cells n d).number ≡ n) × ((slice_index_or cells n d).out ≡ false)

@@ -25,7 +25,7 @@ pub record IsSlab (chunks : ℕ) (slab : SlabState) : Type 0 where
   pub blank : is_listed slab ≡ false → (used slab ≡ 0) × (slab.later ≡ 0) × (slab.stuck ≡ None)
 
 -- what always holds of a list: each buffer has its cell, and each slab is as above (this project's own)
-pub record IsWhole (s : ListState) : Type 0 where
+pub record IsListWhole (s : ListState) : Type 0 where
   pub some : 0 < s.chunks
   pub few : length s.cells ≤ 65536
   pub cells : length s.cells ≡ length s.slabs * s.chunks

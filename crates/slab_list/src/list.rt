@@ -1,11 +1,11 @@
 //! The slabs of one cache.
 ghost use Rattle.std.specs.Prelude.{◌≡◌, ◌≤◌, ◌<◌, ◌+◌, ◌*◌, ◌/◌, ◌%◌, true, false, length, map, replicate, option_map, IfOk};
-ghost use Rattle.kmem_buf.specs.Homes.{IsOf, stub_homes};
+ghost use Rattle.kmem_buf.specs.Homes.{IsBufferOf, stub_homes};
 ghost use Rattle.kmem_model.specs.CacheState.{SlabState, slab_at, slab_in_source, is_same_standing, is_listed, is_dead, used};
 ghost use Rattle.kmem_model.specs.CacheEnter.{slab_listed, slab_taken, slab_freed, slab_later, slab_never, slab_given_back, unmarked};
 ghost use Rattle.kmem_model.specs.declared.cache_state.Standing.TheVariants.{Source, Listed, Dead};
-ghost use Rattle.slab_list.specs.Slabs.{IsWhole, IsFree, slab_with, is_out_in, on_slab, on_buffer, fresh_slab, slab_left};
-ghost use Rattle.slab_list.specs.Lines.{AreFree, line_unmarked};
+ghost use Rattle.slab_list.specs.Slabs.{IsListWhole, IsFree, slab_with, is_out_in, on_slab, on_buffer, fresh_slab, slab_left};
+ghost use Rattle.slab_list.specs.Lines.{AreCellsFree, line_unmarked};
 
 use crate::line::Line;
 use kmem_buf::{Buf, Buffer, Cell, Home, Kind, Stub};
@@ -24,13 +24,13 @@ pub struct SlabList<K> {
 impl<K> Model for SlabList<K> {
     ghost use Rattle.kmem_buf.specs.Homes.{cell_homes};
     ghost use Rattle.slab_list.specs.Slabs.{ListState};
-    ghost use Rattle.slab_list.specs.Lines.{slabs_of, IsKept};
+    ghost use Rattle.slab_list.specs.Lines.{slabs_of, IsListKept};
 
     ghost Value = { ListState };
 
     ghost view = { λ s. record { chunks = s.chunks; slabs = slabs_of s.chunks s.cells.items s.lines.items; cells = cell_homes s.cells.items } };
 
-    ghost invariant = { λ s. IsKept s.chunks s.cells.items s.lines.items };
+    ghost invariant = { λ s. IsListKept s.chunks s.cells.items s.lines.items };
 }
 
 impl<K> Drop for SlabList<K> {
@@ -47,7 +47,7 @@ impl<K> Drop for SlabList<K> {
 impl<K> SlabList<K> {
     /// Shows that the buffer is out. It asks nothing of the kind, so that a type with a list can be a `Cells` of every kind.
     pub fn meet<X>(&mut self, buf: &mut Buffer<X>)
-        requires { IsOf self.old.cells buf.old }
+        requires { IsBufferOf self.old.cells buf.old }
         ensures out { is_out_in self.old buf.old.number ≡ true }
         ensures list { self.new ≡ self.old }
         ensures buf { buf.new ≡ buf.old }
@@ -61,7 +61,7 @@ impl<K: Kind> SlabList<K> {
     /// How many slabs there are, listed or not.
     pub fn slabs(&self) -> u32
         ensures slabs { result ≡ length self.now.slabs }
-        ensures whole { IsWhole self.now }
+        ensures whole { IsListWhole self.now }
     {
         self.lines.len() as u32
     }
@@ -69,7 +69,7 @@ impl<K: Kind> SlabList<K> {
     /// How many buffers a slab has.
     pub fn chunks(&self) -> u32
         ensures chunks { result ≡ self.now.chunks }
-        ensures whole { IsWhole self.now }
+        ensures whole { IsListWhole self.now }
     {
         self.chunks
     }
@@ -177,7 +177,7 @@ impl<K: Kind> SlabList<K> {
         requires { IsFree self.old number }
         ensures list { self.new ≡ on_buffer self.old number slab_taken }
         ensures buf { (result.number ≡ number) × (result.object ≡ object) }
-        ensures home { IsOf self.old.cells result }
+        ensures home { IsBufferOf self.old.cells result }
     {
         let line = &mut self.lines[(number / self.chunks) as usize];
         line.used += 1;
@@ -187,7 +187,7 @@ impl<K: Kind> SlabList<K> {
 
     /// Takes the buffer back, and answers its object. Its slab stays listed, also where no buffer of it is out any more.
     pub fn give(&mut self, buf: Buf<K>) -> K::Object
-        requires { IsOf self.old.cells buf }
+        requires { IsBufferOf self.old.cells buf }
         ensures was { (is_listed (slab_with self.old buf.number) ≡ true) × (is_out_in self.old buf.number ≡ true) }
         ensures list { self.new ≡ on_buffer self.old buf.number (slab_freed Listed) }
         ensures object { result ≡ buf.object }
@@ -246,7 +246,7 @@ impl<K: Kind> SlabList<K> {
 // Cells that are numbered from 0, all free.
 fn free_cells(alloc: Global, count: u32) -> Result<Vec<Cell>, AllocError>
     ensures count { IfOk result (λ cells. length cells.items ≡ count) }
-    ensures free { IfOk result (λ cells. AreFree cells.items) }
+    ensures free { IfOk result (λ cells. AreCellsFree cells.items) }
 {
     let mut cells = Vec::with_capacity(alloc, count as usize)?;
     for number in 0..count {

@@ -2,7 +2,7 @@
 ghost use Rattle.std.specs.Prelude.{◌≡◌, ◌<◌, ◌*◌, ◌+◌, ◌/◌, ◌%◌, ◌&&◌, ◌==◌, ◌||◌, not, nat_lt, ℕ, Bool, true, false, All, ◌↔◌, Option, Some, None, IfSome, is_some, length, option_map, slice_index_or, if◌then◌else◌};
 ghost use Rattle.kmem_model.specs.CacheState.{SlabState, slab_at, is_listed, is_dead, used, free_buffers, is_out_on};
 ghost use Rattle.kmem_model.specs.CacheOrder.{least_below, foremost, is_the, is_partial, is_marked, is_fuller, comes_before, first_partial, least_free, first_of_slab, is_reclaimable, least_to_move, last_reclaimable};
-ghost use Rattle.slab_list.specs.Slabs.{IsWhole, IsFree, slab_with, is_out_in, free_next, is_unused, mode_of};
+ghost use Rattle.slab_list.specs.Slabs.{IsListWhole, IsFree, slab_with, is_out_in, free_next, is_unused, mode_of};
 ghost use Rattle.slab_list.specs.Search.{goes_before};
 
 use crate::list::SlabList;
@@ -121,7 +121,7 @@ impl<K: Kind> SlabList<K> {
     fn first_partial(&self) -> Option<u32>
         ensures first { result ≡ first_partial self.now.slabs }
         ensures range { IfSome result (λ slab. slab < length self.now.slabs) }
-        ensures whole { IsWhole self.now }
+        ensures whole { IsListWhole self.now }
     {
         law_order();
         let mut first = None;

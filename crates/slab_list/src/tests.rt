@@ -1,6 +1,6 @@
 //! Worked rows, and each call once.
 ghost use Rattle.std.specs.Prelude.{◌≡◌, ◌<◌, ◌≤◌, ◌*◌, IfSome, length};
-ghost use Rattle.kmem_buf.specs.Homes.{IsOf};
+ghost use Rattle.kmem_buf.specs.Homes.{IsBufferOf};
 
 use crate::SlabList;
 use kmem_buf::{Buf, Kind};
@@ -38,7 +38,7 @@ fn add(list: &mut SlabList<Counters>, slab: u32)
 
 // Takes the buffer, if it is free on a listed slab.
 fn take(list: &mut SlabList<Counters>, number: u32) -> Option<Buf<Counters>>
-    ensures buf { IfSome result (IsOf list.old.cells) }
+    ensures buf { IfSome result (IsBufferOf list.old.cells) }
     ensures cells { list.new.cells ≡ list.old.cells }
 {
     let slab = number / list.chunks();

@@ -1,6 +1,6 @@
 //! The object: a sum, how many additions it has had, and the most that one may add.
 ghost use Rattle.std.specs.Prelude.{◌≡◌, ℕ, ◌+◌, ◌^◌, ◌<◌, ◌≤◌, [], ◌∷◌, ◌++◌, length, IfOk, vec_capacity};
-ghost use Rattle.hist_lock.specs.Tally.{IsReady, IsDone};
+ghost use Rattle.hist_lock.specs.Tally.{MayAdd, IsDone};
 
 use crate::{HistLock, Pass, Told, Turn};
 use std::alloc::{AllocError, Global};
@@ -39,7 +39,7 @@ impl Turn<Tally> for Add {
 
     ghost can = { λ add who most history. (add.0 ≤ most) × (length history + 1 < 2 ^ 32) };
 
-    ghost tells = { λ add who most history out entry. (out ≡ sum_of history) × (entry ≡ Some add.0) };
+    ghost tells = { λ add who most before after history out entry. (out ≡ sum_of history) × (entry ≡ Some add.0) × (out ≡ before.sum) × (after.sum ≡ before.sum + add.0) };
 
     fn run(self, _who: u32, object: &mut Tally) -> (u64, Option<u32>) {
         let before = object.sum;
@@ -61,7 +61,7 @@ impl Turn<Tally> for Read {
 
     ghost can = { λ read who most history. Unit {0} };
 
-    ghost tells = { λ read who most history out entry. (out ≡ sum_of history) × (entry ≡ None) };
+    ghost tells = { λ read who most before after history out entry. (out ≡ sum_of history) × (entry ≡ None) × (out ≡ before.sum) × (after ≡ before) };
 
     fn run(self, _who: u32, object: &mut Tally) -> (u64, Option<u32>) {
         (object.sum, None)
@@ -91,7 +91,7 @@ pub fn amount(number: u32, i: u32) -> u32
 /// Adds until the pass has nothing left.
 pub fn add_all<R: Wait>(rt: &R, lock: &HistLock<Tally>, done: Done) -> Done
     requires most { lock.now.home ≡ 10000000 }
-    requires ready { IsReady lock.now done.pass done.found.items (vec_capacity done.found) }
+    requires ready { MayAdd lock.now done.pass done.found.items (vec_capacity done.found) }
     ensures { IsDone lock.now done.pass.number result.pass result.found.items }
 {
     let Done {

@@ -1,6 +1,6 @@
 //! A kind, a row of cells, and a client that knows none of its objects.
 ghost use Rattle.std.specs.Prelude.{◌≡◌, ◌+◌, ◌%◌, ◌<◌, ◌^◌, true, length};
-ghost use Rattle.kmem_buf.specs.Homes.{IsOf};
+ghost use Rattle.kmem_buf.specs.Homes.{IsBufferOf};
 
 use crate::{Answer, Buf, Cell, Cells, Home, Kind, MoveClient, Slip, Stub, Verdict};
 use std::alloc::AllocError;
@@ -128,7 +128,7 @@ fn a_buffer_goes_out_and_comes_back(rt: HostRuntime) -> Result<(), Fail> {
 }
 
 fn shown<C: Cells<Counters>>(cells: &mut C, buf: &mut Buf<Counters>) -> u32
-    requires { IsOf (C.cells cells.old) buf.old }
+    requires { IsBufferOf (C.cells cells.old) buf.old }
 {
     cells.meet(buf);
     buf.number()
@@ -146,7 +146,7 @@ fn a_row_shows_a_buffer(rt: HostRuntime) -> Result<(), Fail> {
 }
 
 fn asked<C: MoveClient<Counters>, R: Wait>(rt: &R, client: &mut C, to: Buf<Counters>) -> Verdict
-    requires home { (0 < length (C.home client.old).cells) × IsOf (C.home client.old).cells to }
+    requires home { (0 < length (C.home client.old).cells) × IsBufferOf (C.home client.old).cells to }
     requires object { to.object ≡ 0 }
     requires counts { (C.brought client.old < 2 ^ 62) × (C.fetched client.old < 2 ^ 62) }
 {

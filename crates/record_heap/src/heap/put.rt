@@ -1,6 +1,6 @@
 //! The command `put`.
 ghost use Rattle.std.specs.Prelude.{◌≡◌, ◌<◌, ℕ, true, Some, None, length, slice_set};
-ghost use Rattle.kmem_buf.specs.Homes.{IsOf};
+ghost use Rattle.kmem_buf.specs.Homes.{IsBufferOf};
 ghost use Rattle.kmem_model.specs.Heap.{blank, address_of, object_at, is_leftover, places_of};
 ghost use Rattle.record_heap.specs.View.{IsFrame, IsNew};
 ghost use Rattle.record_heap.specs.Puts.{IsReadyOffer, IsReplaced, IsPutNew, offered};
@@ -8,6 +8,7 @@ ghost use Rattle.record_heap.specs.Puts.{IsReadyOffer, IsReplaced, IsPutNew, off
 use super::RecordHeap;
 use crate::cell::RecordKind;
 use kmem_buf::{Buf, FullNote};
+use kmem_model::law_step;
 use kmem_text::{NameId, Reply, Value};
 
 /// What a put may take for a new record.
@@ -52,6 +53,7 @@ impl RecordHeap {
         ensures put { IsReplaced self.old name.0 value offer result self.new }
         ensures frame { IsFrame self.old self.new }
     {
+        law_step();
         let _ = name;
         let old = self.parts.value(b);
         self.parts.set_value(b, value);
@@ -85,12 +87,13 @@ impl RecordHeap {
     fn make(&mut self, name: NameId, value: Value, buf: Buf<RecordKind>)
         requires name { name.0 < length self.old.heap.names }
         requires absent { address_of self.old.heap name.0 ≡ None }
-        requires buf { IsOf self.old.home.cells buf × (buf.object ≡ blank) }
+        requires buf { IsBufferOf self.old.home.cells buf × (buf.object ≡ blank) }
         ensures empty { object_at self.old.heap buf.number ≡ None }
         ensures new { IsNew self.old name.0 value buf.number self.new }
-        ensures places { places_of self.new.heap ≡ slice_set (places_of self.old.heap) buf.number true }
+        ensures places { places_of self.new.heap.objects ≡ slice_set (places_of self.old.heap.objects) buf.number true }
         ensures frame { IsFrame self.old self.new }
     {
+        law_step();
         self.parts.make(name, value, buf);
         self.present += 1;
         self.records += 1;
@@ -101,9 +104,10 @@ impl RecordHeap {
         requires absent { address_of self.old.heap name.0 ≡ None }
         requires leftover { is_leftover (object_at self.old.heap b) ≡ true }
         ensures new { IsNew self.old name.0 value b self.new }
-        ensures places { places_of self.new.heap ≡ places_of self.old.heap }
+        ensures places { places_of self.new.heap.objects ≡ places_of self.old.heap.objects }
         ensures frame { IsFrame self.old self.new }
     {
+        law_step();
         self.parts.reuse(name, value, b);
         self.present += 1;
         self.records += 1;

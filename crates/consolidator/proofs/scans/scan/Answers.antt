@@ -147,7 +147,7 @@ answer_move-answer-requires-clause-from c =
     (c.law_stage.ensures.known c.moves.cache.state c.moves.heap.heap c.in-Ok.job.move.from begun.1)
 
 pub end-requires-clause-answer : goal.end-requires-clause-answer
-end-requires-clause-answer c κs =
+end-requires-clause-answer c =
     let move_is : c.part-pending.result.0 ≡ c.in-Ok.job.move =
     c.part-pending.ensures.0 ∙ ap (λ (k : JobState Object). k.move) c.in-Some.ensures.kept.0 in
     let to_is : c.part-pending.result.1.number ≡ c.part-pending.result.0.to =

@@ -19,8 +19,8 @@ scans-init c =
       on = record { moves = []; inside = begun.0; same = sym begun.1; counts = c.no_moves-tally.ensures; heap_moves = heap_still c.args.heap.now };
     }
 
-pub is_rest_marked-rest-requires-after_bounds : goal.is_rest_marked-rest-requires-after_bounds
-is_rest_marked-rest-requires-after_bounds c κs =
+pub is_rest_marked-rest-requires : goal.is_rest_marked-rest-requires
+is_rest_marked-rest-requires c =
     (c.law_scans.ensures.inside (stage_in c.scans.cache.state c.scans.heap.heap)
     (record { stage = stage_in c.scan-gained.new.cache.state c.scan-gained.new.heap.heap; moves = c.scan-gained.ensures.scan.moves })
     c.scans.invariant.on.inside c.scan-gained.ensures.scan.scan).whole.cache

@@ -2,9 +2,9 @@ use Rattle.std.proofs.Common.{◌≡◌, ◌+◌, length, ap, sym, ◌∙◌, su
 use Rattle.hist_lock.specs.declared.rule.Bounds.{Bounds}
 use Rattle.hist_lock.specs.History.{entries_of, listed}
 use Rattle.atomic_table.specs.Seated.{TableId}
-use Rattle.hist_lock.specs.Passes.{Standing, IsTurn}
+use Rattle.hist_lock.specs.Passes.{PassState, IsTurn}
 use Rattle.hist_lock.specs.Rule.{own}
-use Rattle.hist_lock.specs.Seats.{HasRun, bounds_in, standing_of}
+use Rattle.hist_lock.specs.Seats.{HasRun, bounds_in, pass_state}
 use Rattle.hist_lock.proofs.Turns.{asks, noted_none, run_at, run_seen, run_number, run_exact, whole, turned, rests}
 use Rattle.hist_lock.proofs.lock.HistLock.look.Goals as goal
 
@@ -39,8 +39,8 @@ returns g c =
     let resting = rests told.stands told.home bounds pass.seat.table_id pass.number pass.left pass.seat.me c.enter.new.seat.me held c.pass.invariant entered.1 can tells c.run-out.result.0 None new c.run-out.new.seat.me c.run-out.ensures.view said.1 ran may new c.run-out.new.seat.me noted pass.left all_left c.leave.new.seat.me c.leave.ensures.left seat_left in
     let same : bounds_in told.anywhere c.leave.new.seat.me.0 ≡ bounds = ap (λ o. unwrap_or o (record { home = told.anywhere; room = 0; count = 0 })) resting.bounds in
     let table = c.leave.ensures.same.0 ∙ (c.run-out.ensures.same.0 ∙ c.enter.ensures.same.0) in
-    let before = standing_of pass.seat.table_id bounds pass.number pass.left (own pass.seat.me.0) in
-    let after : TableId × Bounds g.row.O-Home.Denot → Standing g.row.O-Entry.Denot g.row.O-Home.Denot = λ z. standing_of z.0 z.1 pass.number pass.left (own c.leave.new.seat.me.0) in (
+    let before = pass_state pass.seat.table_id bounds pass.number pass.left (own pass.seat.me.0) in
+    let after : TableId × Bounds g.row.O-Home.Denot → PassState g.row.O-Entry.Denot g.row.O-Home.Denot = λ z. pass_state z.0 z.1 pass.number pass.left (own c.leave.new.seat.me.0) in (
       held.journal.items,
       subst (λ p. IsTurn told.stands told.home (turn.tells c.args.turn p.number p.site.home) p (after (c.leave.new.seat.table_id, bounds_in told.anywhere c.leave.new.seat.me.0)) c.run-out.result.0 held.journal.items None) c.pass.view_is
           (subst (λ z. IsTurn told.stands told.home (tells bounds.home) before (after z) c.run-out.result.0 held.journal.items None) (λ i. (sym table i, sym same i)) done),

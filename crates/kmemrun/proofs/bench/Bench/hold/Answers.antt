@@ -27,9 +27,9 @@ returns-in-Some c =
             let held = c.law_step.ensures.held s.map c.args.worker c.args.tag c.args.name (sym reply ∙ done) in
             let tags = ap (λ (m : RecordMap). m.tags) (c.law_one_step.ensures.maps s c.args.worker (Hold c.args.tag c.args.name) refl) ∙ held.1 in
             carried old new s c.args.worker (Hold c.args.tag c.args.name) c.hold-reply.result.0 _ s.cache at ends reply at.cache refl c.hold-reply.ensures.frame
-            (held_changed old new s c.args.worker (Hold c.args.tag c.args.name) (set s.map.tags (tag_place c.args.worker c.args.tag.0) (Some held.0)) ends.stands tags
+            (held_changed old new s c.args.worker (Hold c.args.tag c.args.name) (set s.map.tags (tag_place c.args.worker c.args.tag) (Some held.0)) ends.stands tags
             (λ n. ap (λ i. is_some (get_or (set f.holds.items i (Some c.in-Some.hold)) n None)) c.place_of.ensures.place
-            ∙ filled_both f.holds.items s.map.tags (tag_place c.args.worker c.args.tag.0) c.in-Some.hold held.0
+            ∙ filled_both f.holds.items s.map.tags (tag_place c.args.worker c.args.tag) c.in-Some.hold held.0
             (subst (λ i. i < length f.holds.items) c.place_of.ensures.place below)
             (subst (λ i. i < length s.map.tags) c.place_of.ensures.place (omega (arith, c.place_of.ensures.within, tags_size s old at, c.self.invariant.tags)))
             (holds_are s old at) n));

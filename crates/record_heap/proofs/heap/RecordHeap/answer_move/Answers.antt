@@ -5,7 +5,7 @@ use Rattle.record_heap.specs.Kept.{IsKept}
 use Rattle.std.specs.List.{list_any}
 use Rattle.std.specs.Option.{option_map_or}
 use Rattle.kmem_buf.specs.Buffers.{BufState}
-use Rattle.kmem_buf.specs.Homes.{IsOf}
+use Rattle.kmem_buf.specs.Homes.{IsBufferOf}
 use Rattle.kmem_model.specs.CacheOrder.{is_the}
 use Rattle.kmem_model.specs.declared.cache_entry.Said.{Said}
 use Rattle.kmem_model.specs.declared.cache_entry.Said.TheVariants as said
@@ -59,7 +59,7 @@ invariant_of-self-in-DontNeed c =
     (without_kept h f.present f.records f.leftovers c.self.invariant c.args.from (need_is (object_at h c.args.from) says))
 
 pub returns-in-Yes-clause-stands : goal.returns-in-Yes-clause-stands
-returns-in-Yes-clause-stands c = λ m a valid s.
+returns-in-Yes-clause-stands c = λ m a s.
     let f = c.self.inside in
     let h = f.parts.heap in
     let parts = c.show_empty-to.ensures.parts in
@@ -70,7 +70,7 @@ returns-in-Yes-clause-stands c = λ m a valid s.
     let said_now : said.Yes ≡ answer_about (object_at c.args.self.now.heap c.args.from) = says ∙ ap (λ (v : HeapView). answer_about (object_at v.heap c.args.from)) c.self.view_is in
     subst (λ (x : Said). StandsFor m (addresses_after a c.args.from c.args.to.number x) c.relocate.new.self.heap) said_now
     (subst (λ (k : HeapState). StandsFor m (addresses_after a c.args.from c.args.to.number said.Yes) k) (sym is)
-    (c.law_relocation.ensures.moved m a h c.args.from c.args.to.number valid (subst (λ (v : HeapView). StandsFor m a v.heap) (sym c.self.view_is) s)
+    (c.law_relocation.ensures.moved m a h c.args.from c.args.to.number (subst (λ (v : HeapView). StandsFor m a v.heap) (sym c.self.view_is) s)
     c.show_empty-to.ensures.empty c.show_empty-to.ensures.range (sym says)))
 
 pub returns-in-DontNeed-clause-buffers : goal.returns-in-DontNeed-clause-buffers
@@ -83,15 +83,15 @@ returns-in-DontNeed-clause-buffers c =
     let blank_there = leftover_blank h f.present f.records f.leftovers c.self.invariant c.args.from (need_is (object_at h c.args.from) says) in
     let cells = c.args.self.now.home.cells in (
       ap₂ (λ (x y : ℕ). x ∷ y ∷ []) c.take_out.ensures.buf.0 (ap (λ (b : BufState Object). b.number) c.show_empty-to.ensures.buf),
-      all_two (λ (b : BufState Object). (b.object ≡ blank) × IsOf cells b) c.take_out.result c.show_empty-to.result (
+      all_two (λ (b : BufState Object). (b.object ≡ blank) × IsBufferOf cells b) c.take_out.result c.show_empty-to.result (
         some_is c.take_out.result.object blank (sym c.take_out.ensures.object ∙ (ap (λ (v : HeapView). object_at v.heap c.args.from) parts ∙ blank_there)),
-        subst (λ (v : HeapView). IsOf v.home.cells c.take_out.result) (parts ∙ c.self.view_is) c.take_out.ensures.buf.1,
+        subst (λ (v : HeapView). IsBufferOf v.home.cells c.take_out.result) (parts ∙ c.self.view_is) c.take_out.ensures.buf.1,
       )
-          (subst (λ (b : BufState Object). (b.object ≡ blank) × IsOf cells b) (sym c.show_empty-to.ensures.buf) (c.requires.to.1, c.requires.to.0)),
+          (subst (λ (b : BufState Object). (b.object ≡ blank) × IsBufferOf cells b) (sym c.show_empty-to.ensures.buf) (c.requires.to.1, c.requires.to.0)),
     )
 
 pub returns-in-DontNeed-clause-stands : goal.returns-in-DontNeed-clause-stands
-returns-in-DontNeed-clause-stands c = λ m a valid s.
+returns-in-DontNeed-clause-stands c = λ m a s.
     let f = c.self.inside in
     let h = f.parts.heap in
     let parts = c.show_empty-to.ensures.parts in
@@ -102,4 +102,4 @@ returns-in-DontNeed-clause-stands c = λ m a valid s.
     let said_now : said.DontNeed ≡ answer_about (object_at c.args.self.now.heap c.args.from) = says ∙ ap (λ (v : HeapView). answer_about (object_at v.heap c.args.from)) c.self.view_is in
     subst (λ (x : Said). StandsFor m (addresses_after a c.args.from c.args.to.number x) c.take_out.new.self.heap) said_now
     (subst (λ (k : HeapState). StandsFor m a k) (sym is)
-    (c.law_relocation.ensures.unneeded m a h c.args.from valid (subst (λ (v : HeapView). StandsFor m a v.heap) (sym c.self.view_is) s) (sym says)))
+    (c.law_relocation.ensures.unneeded m a h c.args.from (subst (λ (v : HeapView). StandsFor m a v.heap) (sym c.self.view_is) s) (sym says)))

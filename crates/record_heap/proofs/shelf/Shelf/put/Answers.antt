@@ -2,7 +2,7 @@ use Rattle.std.proofs.Common.{ℕ, ◌≡◌, ◌<◌, Option, Some, None, List,
 use Rattle.std.proofs.lemmas.Option.{slice_get_within}
 use Rattle.std.proofs.lemmas.List.{get_or_read, length-map, set-set}
 use Rattle.kmem_buf.specs.Buffers.{BufState}
-use Rattle.kmem_buf.specs.Homes.{IsOf}
+use Rattle.kmem_buf.specs.Homes.{IsBufferOf}
 use Rattle.kmem_model.specs.Heap.{Object}
 use Rattle.record_heap.specs.Shelves.{ShelfState, AreShelved, objects_of}
 use Rattle.record_heap.proofs.Shelved.{shelved_put, objects_set, one_home}
@@ -13,7 +13,7 @@ pub invariant_of-self-in-None-2 : goal.invariant_of-self-in-None-2
 invariant_of-self-in-None-2 c =
     let f = c.self.inside in
     let n = c.number-number.result in
-    let of : IsOf f.home.cells c.args.buf = subst (λ (s : ShelfState). IsOf s.home.cells c.args.buf) (sym c.self.view_is) c.requires in
+    let of : IsBufferOf f.home.cells c.args.buf = subst (λ (s : ShelfState). IsBufferOf s.home.cells c.args.buf) (sym c.self.view_is) c.requires in
     subst (AreShelved f.home.cells) (sym (set-set f.bufs.items n c.take.new.self (Some c.args.buf)))
     (shelved_put f.home.cells f.bufs.items n c.args.buf c.self.invariant (sym c.number-number.ensures) of)
 
@@ -21,7 +21,7 @@ pub clash-requires : goal.clash-requires
 clash-requires c =
     let f = c.self.inside in
     let n = c.number-number.result in
-    let of : IsOf f.home.cells c.args.buf = subst (λ (s : ShelfState). IsOf s.home.cells c.args.buf) (sym c.self.view_is) c.requires in
+    let of : IsBufferOf f.home.cells c.args.buf = subst (λ (s : ShelfState). IsBufferOf s.home.cells c.args.buf) (sym c.self.view_is) c.requires in
     let low : n < length f.bufs.items = omega (arith, slice_get_within f.home.cells c.args.buf.number c.args.buf.home of, c.number-number.ensures, c.self.invariant.size) in
     let is : get_or f.bufs.items n None ≡ Some c.in-Some.other =
     sym (get_or_read f.bufs.items n c.index_mut.result.now low c.index_mut.ensures.value None) ∙ (sym c.take.ensures.value ∙ c.in-Some.is) in

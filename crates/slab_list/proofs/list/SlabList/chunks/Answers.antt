@@ -1,9 +1,9 @@
 use Rattle.std.proofs.Common.{subst}
 use Rattle.slab_list.proofs.Rows.{whole}
-use Rattle.slab_list.specs.Slabs.{IsWhole}
+use Rattle.slab_list.specs.Slabs.{IsListWhole}
 use Rattle.slab_list.proofs.list.SlabList.chunks.Goals as goal
 
 pub returns-clause-whole : goal.returns-clause-whole
 returns-clause-whole g c =
     let f = c.self.inside in
-    subst IsWhole c.self.view_is (whole f.chunks f.cells.items f.lines.items c.self.invariant)
+    subst IsListWhole c.self.view_is (whole f.chunks f.cells.items f.lines.items c.self.invariant)

@@ -1,5 +1,5 @@
 use Rattle.std.proofs.Common.{◌≡◌, replicate, sym, ap, ◌∙◌, subst}
-use Rattle.slab_list.specs.Lines.{IsKept, slabs_of, line_in_source}
+use Rattle.slab_list.specs.Lines.{IsListKept, slabs_of, line_in_source}
 use Rattle.slab_list.proofs.Whole.{slabs_start, kept_start}
 use Rattle.slab_list.proofs.list.SlabList.create.Goals as goal
 
@@ -8,7 +8,7 @@ invariant_of-result g c =
     let cells = c.in_ok-free_cells.field-0.items in
     let lines = c.in_ok-from_elem.field-0.items in
     let is : lines ≡ replicate c.args.slabs line_in_source = c.in_ok-from_elem.ensures.items_if_clones_equal (λ y e. e) ∙ ap (replicate c.args.slabs) c.in_source.ensures in
-    subst (IsKept c.args.chunks cells) (sym is)
+    subst (IsListKept c.args.chunks cells) (sym is)
     (kept_start c.args.chunks c.args.slabs cells c.requires.chunks.0 c.requires.buffers c.in_ok-free_cells.ensures.count c.in_ok-free_cells.ensures.free)
 
 pub returns-clause-slabs : goal.returns-clause-slabs

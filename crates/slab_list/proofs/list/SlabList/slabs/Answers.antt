@@ -1,6 +1,6 @@
 use Rattle.std.proofs.Common.{length, arith, ap, subst}
 use Rattle.slab_list.proofs.Rows.{length-slabs_of, whole}
-use Rattle.slab_list.specs.Slabs.{IsWhole}
+use Rattle.slab_list.specs.Slabs.{IsListWhole}
 use Rattle.slab_list.proofs.list.SlabList.slabs.Goals as goal
 
 pub returns-clause-slabs : goal.returns-clause-slabs
@@ -11,4 +11,4 @@ returns-clause-slabs g c =
 pub returns-clause-whole : goal.returns-clause-whole
 returns-clause-whole g c =
     let f = c.self.inside in
-    subst IsWhole c.self.view_is (whole f.chunks f.cells.items f.lines.items c.self.invariant)
+    subst IsListWhole c.self.view_is (whole f.chunks f.cells.items f.lines.items c.self.invariant)
