@@ -4,8 +4,6 @@ use Rattle.std.specs.List.{list_any}
 use Rattle.std.specs.Bool.{then_some}
 use Rattle.std.specs.Option.{IsSome}
 use Rattle.std.proofs.lemmas.List.Folds.{list_any-append}
-use Rattle.kmem_buf.specs.declared.client.Verdict.{Verdict}
-use Rattle.kmem_buf.specs.declared.client.Verdict.TheVariants as verdict
 use Rattle.kmem_model.specs.CacheState.{CacheState}
 use Rattle.kmem_model.specs.CacheEnter.{enter}
 use Rattle.kmem_model.specs.declared.cache_entry.CacheEntry.TheVariants.{End}
@@ -17,21 +15,11 @@ use Rattle.kmem_model.specs.Settle.{Stage, EndedMove, Course, said_at, says_afte
 use Rattle.kmem_model.specs.SettleWhole.{IsWholeStage}
 use Rattle.kmem_model.specs.SettleTurns.{course_moved, IsMoveOn}
 use Rattle.kmem_model.specs.OneRun.{addresses_moved}
-use Rattle.object_cache.specs.Modes.{said_of}
 use Rattle.object_cache.specs.declared.tally.Tally.{Tally}
-use Rattle.record_heap.specs.Answers as heap
 use Rattle.record_heap.specs.View.{HeapView, IsFrame}
 use Rattle.consolidator.specs.Tallies.{counted, counted_all, tally_of}
 use Rattle.consolidator.specs.Settles.{HeapMoves, ScansTo}
 use Rattle.consolidator.proofs.Within.{IsOnScan}
-
--- the two names of an answer agree
-pub same_said : (v : Verdict) → heap.said_of v ≡ said_of v
-same_said verdict.Yes = refl
-same_said verdict.No = refl
-same_said verdict.Later = refl
-same_said verdict.DontNeed = refl
-same_said verdict.DontKnow = refl
 
 -- Lists of moves
 

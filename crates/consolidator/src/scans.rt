@@ -5,7 +5,7 @@ ghost use Rattle.kmem_model.specs.CacheState.{has_pending};
 ghost use Rattle.kmem_model.specs.Says.{stage_in, AreInBuffers};
 ghost use Rattle.kmem_model.specs.Settle.{gains};
 ghost use Rattle.kmem_model.specs.SettleWhole.{IsWhole, IsWholeStage, IsSettled};
-ghost use Rattle.object_cache.specs.Modes.{said_of};
+ghost use Rattle.kmem_answers.specs.Words.{said_of};
 ghost use Rattle.consolidator.specs.Settles.{ScansTo, SettlesTo};
 
 use crate::marks::is_rest_marked;

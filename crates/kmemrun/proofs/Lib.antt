@@ -1,3 +1,4 @@
+pub mod Within
 pub mod Pages
 pub mod Benches
 pub mod Freeing

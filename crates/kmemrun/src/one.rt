@@ -6,7 +6,7 @@ ghost use Rattle.kmem_io.specs.Streams.{CanRise, CountsFaults, AppendsFront};
 ghost use Rattle.kmem_text.specs.Grammar.{script_of, first_bad_of};
 ghost use Rattle.kmem_text.specs.Faults.{Explains};
 ghost use Rattle.kmem_text.specs.Replies.{reply_text, IsReplyWithinNames};
-ghost use Rattle.kmem_model.specs.OneRun.{OneRun, run_start, replies, lines_run, reply_lines, run_text};
+ghost use Rattle.kmem_model.specs.OneRun.{OneRun, run_start, replies, lines_run, reply_lines, one_text};
 ghost use Rattle.kmemrun.specs.Answers.{one_answer, IfBadScript, IsDue, IsFineButForStreams, IsLawful};
 ghost use Rattle.kmemrun.specs.Bench.{Stands, RunsAt, IsGoodLine};
 ghost use Rattle.kmemrun.specs.Pages.{MovesOut};
@@ -139,8 +139,8 @@ fn answer_script<W: Sink>(
     requires stands { Stands ready.old.bench }
     requires page { 641 ≤ length ready.old.page.items }
     requires out { CanRise (W.faults out.old) }
-    ensures whole { OnOk result ((start : OneRun) → RunsAt start ready.old.bench → Appends (W.written out.old) (W.written out.new) (run_text every ready.old.script.names.items start ready.old.script.lines.items)) }
-    ensures front { (start : OneRun) → RunsAt start ready.old.bench → AppendsFront (W.written out.old) (W.written out.new) (run_text every ready.old.script.names.items start ready.old.script.lines.items) }
+    ensures whole { OnOk result ((start : OneRun) → RunsAt start ready.old.bench → Appends (W.written out.old) (W.written out.new) (one_text every ready.old.script.names.items start ready.old.script.lines.items)) }
+    ensures front { (start : OneRun) → RunsAt start ready.old.bench → AppendsFront (W.written out.old) (W.written out.new) (one_text every ready.old.script.names.items start ready.old.script.lines.items) }
     ensures counted { CountsFaults (W.faults out.old) (W.faults out.new) result }
 {
     answer_lines(&ready.script, &mut ready.bench, every, &mut ready.page, out)?;

@@ -9,7 +9,7 @@ ghost use Rattle.kmem_model.specs.Says.{says, relocated};
 ghost use Rattle.record_heap.specs.Objects.{held_less, is_unused};
 ghost use Rattle.record_heap.specs.View.{IsHoldAt};
 ghost use Rattle.record_heap.specs.Changes.{value_in, names_in, holds_in, with_object, changed_at, with_tag, valued, fixed_at, linked, unlinked, tagged, made};
-ghost use Rattle.record_heap.specs.Answers.{said_of};
+ghost use Rattle.kmem_answers.specs.Words.{said_of};
 
 use crate::cell::{RecordCell, RecordKind};
 use crate::hold::{Hold, Tags, place_of};

@@ -6,7 +6,7 @@ ghost use Rattle.kmem_model.specs.Records.{RecordMap};
 ghost use Rattle.kmem_model.specs.Heap.{least_left_in, blank, places_of, StandsFor, object_at, is_leftover};
 ghost use Rattle.kmem_model.specs.Says.{says, heap_after, addresses_after};
 ghost use Rattle.record_heap.specs.View.{IsFrame};
-ghost use Rattle.record_heap.specs.Answers.{said_of};
+ghost use Rattle.kmem_answers.specs.Words.{said_of};
 
 use super::RecordHeap;
 use crate::cell::RecordKind;

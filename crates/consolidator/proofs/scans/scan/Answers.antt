@@ -12,7 +12,7 @@ use Rattle.kmem_model.specs.Settle.{Stage, Course, gains, said_at}
 use Rattle.kmem_model.specs.SettleTurns.{course_moved, IsMoveOn}
 use Rattle.kmem_model.specs.declared.cache_entry.Said.{Said}
 use Rattle.object_cache.specs.Cache.{CacheView}
-use Rattle.object_cache.specs.Modes.{said_of}
+use Rattle.kmem_answers.specs.Words.{said_of}
 use Rattle.object_cache.specs.Moves.{PendingState, JobState}
 use Rattle.object_cache.specs.declared.cache.BeginRefused.{BeginRefused}
 use Rattle.object_cache.specs.declared.cache.BeginRefused.TheVariants.{Idle, NoMemory}
@@ -20,7 +20,7 @@ use Rattle.object_cache.specs.declared.tally.Tally.{Tally}
 use Rattle.consolidator.specs.Tallies.{counted}
 use Rattle.consolidator.specs.Settles.{ScansTo}
 use Rattle.consolidator.proofs.Within.{IsOnScan}
-use Rattle.consolidator.proofs.Turns.{heap_still, same_said, IsAnswered, answered_at, one_move, says_next, on_scan_more, ends_same, scans_to, legal_idle, or_true}
+use Rattle.consolidator.proofs.Turns.{heap_still, IsAnswered, answered_at, one_move, says_next, on_scan_more, ends_same, scans_to, legal_idle, or_true}
 use Rattle.consolidator.proofs.scans.scan.Goals as goal
 use Rattle.consolidator.proofs.scans.scan.Goals.{then-gained, else-gained}
 
@@ -55,10 +55,9 @@ said c = said_at (now c).stage c.in-Ok.job.move.from
 
 said_is : (c : goal.After-end) → said_of (verdict_of c.answer_move-answer.result) ≡ said c
 said_is c =
-    sym (same_said (verdict_of c.answer_move-answer.result))
-    ∙ (c.answer_move-answer.ensures.answer
+    c.answer_move-answer.ensures.answer
     ∙ (ap (says c.moves.heap.heap true) (from_is c)
-    ∙ sym (c.law_stage.ensures.said c.moves.cache.state c.moves.heap.heap c.in-Ok.job.move.from)))
+    ∙ sym (c.law_stage.ensures.said c.moves.cache.state c.moves.heap.heap c.in-Ok.job.move.from))
 
 answered : (c : goal.After-end) → IsAnswered c.moves.heap c.answer_move-answer.new.self c.in-Ok.job.move.from c.in-Ok.job.move.to
 answered c =

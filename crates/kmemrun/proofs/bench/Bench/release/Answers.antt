@@ -7,7 +7,7 @@ use Rattle.kmem_model.specs.RecordStep.{drop_step}
 use Rattle.kmem_model.specs.Heap.{StandsFor, hold_at}
 use Rattle.record_heap.specs.View.{HoldState}
 use Rattle.kmemrun.specs.Bench.{BenchView, StandsAt, IsHoldAtPlace}
-use Rattle.kmemrun.proofs.Benches.{range_of, carried, held_changed, holds_are, cleared_both, kept_at, read_is, not_used, same_frame}
+use Rattle.kmemrun.proofs.Benches.{carried, held_changed, holds_are, cleared_both, kept_at, read_is, not_used, same_frame}
 use Rattle.kmemrun.proofs.bench.Bench.release.Goals as goal
 
 pub returns-in-Some : goal.returns-in-Some
@@ -24,11 +24,10 @@ returns-in-Some c =
       carried_out = record {
         out = λ s given.
             let at = subst (StandsAt s) (sym c.self.view_is) given in
-            let after = subst (λ n. StandsFor (drop_step s.map n (held_at s.map n)).map s.addresses c.release.new.self.heap) place (c.release.ensures.stands s.map s.addresses at.stands.valid at.stands.stands) in
-            let reply = subst (λ n. c.release.result ≡ (drop_step s.map n (held_at s.map n)).reply) place (c.release.ensures.reply s.map s.addresses at.stands.valid at.stands.stands) in
+            let after = subst (λ n. StandsFor (drop_step s.map n (held_at s.map n)).map s.addresses c.release.new.self.heap) place (c.release.ensures.stands s.map s.addresses at.stands.stands) in
+            let reply = subst (λ n. c.release.result ≡ (drop_step s.map n (held_at s.map n)).reply) place (c.release.ensures.reply s.map s.addresses at.stands.stands) in
             let ends =
             c.law_one_step.ensures.leaving s f.heap.heap c.release.new.self.heap c.args.worker (Drop c.args.tag) at.stands refl
-            (range_of s c.args.self.now c.args.worker (Drop c.args.tag) given (ap (λ (b : BenchView). length b.heap.heap.tags) (sym c.self.view_is) ∙ c.self.invariant.tags) c.requires.command)
             after c.release.ensures.places in
             let used : is_some (held_at s.map (tag_place c.args.worker c.args.tag)) ≡ true = sym (holds_are s old at (tag_place c.args.worker c.args.tag)) ∙ (ap (λ n. is_some (get_or f.holds.items n None)) (sym c.place_of.ensures.place) ∙ ap is_some here) in
             let tags = ap (λ (m : RecordMap). m.tags) (c.law_one_step.ensures.maps s c.args.worker (Drop c.args.tag) refl) ∙ c.law_step.ensures.dropped s.map c.args.worker c.args.tag used in

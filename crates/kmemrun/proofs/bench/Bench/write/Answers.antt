@@ -7,7 +7,7 @@ use Rattle.kmem_model.specs.RecordStep.{write_step}
 use Rattle.kmem_model.specs.Heap.{StandsFor, hold_at}
 use Rattle.record_heap.specs.View.{HoldState}
 use Rattle.kmemrun.specs.Bench.{BenchView, StandsAt, IsHoldAtPlace}
-use Rattle.kmemrun.proofs.Benches.{range_of, carried, held_same, kept_at, read_is, not_used, same_frame}
+use Rattle.kmemrun.proofs.Benches.{carried, held_same, kept_at, read_is, not_used, same_frame}
 use Rattle.kmemrun.proofs.bench.Bench.write.Goals as goal
 
 pub returns-in-Some : goal.returns-in-Some
@@ -24,11 +24,10 @@ returns-in-Some c =
       carried_out = record {
         out = λ s given.
             let at = subst (StandsAt s) (sym c.self.view_is) given in
-            let after = subst (λ n. StandsFor (write_step s.map c.args.value (held_at s.map n)).map s.addresses c.write.new.self.heap) place (c.write.ensures.stands s.map s.addresses at.stands.valid at.stands.stands) in
-            let reply = subst (λ n. c.write.result ≡ (write_step s.map c.args.value (held_at s.map n)).reply) place (c.write.ensures.reply s.map s.addresses at.stands.valid at.stands.stands) in
+            let after = subst (λ n. StandsFor (write_step s.map c.args.value (held_at s.map n)).map s.addresses c.write.new.self.heap) place (c.write.ensures.stands s.map s.addresses at.stands.stands) in
+            let reply = subst (λ n. c.write.result ≡ (write_step s.map c.args.value (held_at s.map n)).reply) place (c.write.ensures.reply s.map s.addresses at.stands.stands) in
             let ends =
             c.law_one_step.ensures.leaving s f.heap.heap c.write.new.self.heap c.args.worker (Write c.args.tag c.args.value) at.stands refl
-            (range_of s c.args.self.now c.args.worker (Write c.args.tag c.args.value) given (ap (λ (b : BenchView). length b.heap.heap.tags) (sym c.self.view_is) ∙ c.self.invariant.tags) c.requires.command)
             after c.write.ensures.places in
             carried old new s c.args.worker (Write c.args.tag c.args.value) c.write.result _ s.cache at ends reply at.cache refl c.write.ensures.frame
             (held_same old new s c.args.worker (Write c.args.tag c.args.value) at ends.stands (c.law_one_step.ensures.tags s c.args.worker (Write c.args.tag c.args.value) refl)

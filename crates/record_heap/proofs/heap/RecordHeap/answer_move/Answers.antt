@@ -10,7 +10,7 @@ use Rattle.kmem_model.specs.CacheOrder.{is_the}
 use Rattle.kmem_model.specs.declared.cache_entry.Said.{Said}
 use Rattle.kmem_model.specs.declared.cache_entry.Said.TheVariants as said
 use Rattle.kmem_model.specs.Says.{answer_about, addresses_after, relocated}
-use Rattle.record_heap.specs.Answers.{said_of}
+use Rattle.kmem_answers.specs.Words.{said_of}
 use Rattle.record_heap.specs.Changes.{names_in, with_object}
 use Rattle.record_heap.proofs.Kept.{leftover_blank, some_is}
 use Rattle.record_heap.proofs.Shelved.{all_two}
