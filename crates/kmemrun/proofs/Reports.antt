@@ -7,7 +7,8 @@ use Rattle.kmem_model.specs.CacheState.{CacheState}
 use Rattle.kmem_model.specs.Records.{live_count}
 use Rattle.kmem_model.specs.Report.{MoveCounts, Report, report_text}
 use Rattle.kmem_model.specs.OneRun.{OneRun, run_ended, report_of, report_after}
-use Rattle.kmem_model.specs.OneRun as one
+use Rattle.kmem_model.specs.Report.{ends_in}
+use Rattle.kmem_model.specs.SettleEntries.{moves_entries}
 use Rattle.kmem_report.specs.Reported.{counts_of, reported}
 use Rattle.object_cache.specs.declared.tally.Tally.{Tally}
 use Rattle.consolidator.specs.Tallies.{tally_of}

@@ -1,11 +1,12 @@
 -- What a run of the program writes, or which status it ends with, by its words and its input (this project's own rule).
-use Rattle.std.specs.Prelude.{◌*◌, ◌⊎◌, ℕ, nat_lt, List, [], length, Option, Some, None, Result, Ok, Err, IsOk, IsErrOf, if◌then◌else◌}
+use Rattle.std.specs.Prelude.{◌≡◌, ◌++◌, ◌*◌, ◌⊎◌, ℕ, nat_lt, List, [], length, Option, Some, None, Result, Ok, Err, IsOk, IsErrOf, if◌then◌else◌}
 use Rattle.kmem_text.specs.Grammar.{Plain, script_of, first_bad_of}
 use Rattle.kmem_text.specs.declared.spelling.LineFault.{LineFault}
 use Rattle.kmem_model.specs.Records.{no_records}
-use Rattle.kmem_model.specs.History.{IsLegal, IsFullExactly}
+use Rattle.kmem_model.specs.declared.record_entry.RecordEntry.{RecordEntry}
+use Rattle.kmem_model.specs.History.{IsLegalHistory, IsShared, IsFullExactly, replies_of}
 use Rattle.kmem_model.specs.One.{one_workers}
-use Rattle.kmem_model.specs.OneRun.{run_start, history_of, one_output}
+use Rattle.kmem_model.specs.OneRun.{reply_lines, one_output}
 use Rattle.kmem_model.specs.declared.plan.Plan.{Plan}
 use Rattle.kmem_model.specs.declared.plan.Plan.TheVariants.{One}
 use Rattle.kmemrun.specs.declared.fault.Fault.{Fault}
@@ -22,12 +23,16 @@ script_answer slabs chunks every None script = if nat_lt 100000 (length script.l
 abbrev pub one_answer : ℕ → ℕ → Option ℕ → List ℕ → Result (List ℕ) Fault
 one_answer slabs chunks every bytes = if nat_lt 16777216 (length bytes) then Err fault.Limit else script_answer slabs chunks every (first_bad_of 16 bytes) (script_of 16 bytes)
 
--- the replies to a script are a legal history, and `full` comes in it exactly where as many records live as there are buffers
-abbrev pub IsLawful : ℕ → ℕ → Option ℕ → Plain → Type 0
-IsLawful slabs chunks every script =
-    let start = no_records (length script.names) one_workers in
-    let history = history_of every 1 (run_start slabs chunks (length script.names)) [] script.lines in
-    IsLegal start history × IsFullExactly (slabs * chunks) start history
+-- The text is that of a history: its replies, each on a line, and what follows them. The history is legal for a plain map of records; it has
+-- each line's command once, and each worker's in their order; and `full` stands in it exactly where the name of a put is absent and as many
+-- records live as there are buffers
+pub record IsTextOfHistory (slabs chunks : ℕ) (script : Plain) (text : List ℕ) : Type 0 where
+  pub history : List (ℕ × RecordEntry)
+  pub behind : List ℕ
+  pub whole : text ≡ reply_lines script.names (replies_of history) ++ behind
+  pub legal : IsLegalHistory (no_records (length script.names) one_workers) history
+  pub shared : IsShared history script.lines
+  pub full : IsFullExactly (slabs * chunks) (no_records (length script.names) one_workers) history
 
 -- what holds of the line and the check of a bad script
 abbrev pub IfBadScript : Fault → (ℕ → LineFault → Type 0) → Type 0
@@ -54,7 +59,7 @@ abbrev pub plan_answer : Option Plan → List ℕ → Result (List ℕ) Ending
 plan_answer None bytes = Err ending.Usage
 plan_answer (Some (One slabs chunks every)) bytes = or_ending (one_answer slabs chunks every bytes)
 
--- the replies that a plan writes for an input are a legal history
-abbrev pub IsPlanLawful : Option Plan → List ℕ → Type 0
-IsPlanLawful None bytes = Unit {0}
-IsPlanLawful (Some (One slabs chunks every)) bytes = IsLawful slabs chunks every (script_of 16 bytes)
+-- and that text is one of a history
+abbrev pub IsPlanText : Option Plan → List ℕ → List ℕ → Type 0
+IsPlanText None bytes text = ⊥
+IsPlanText (Some (One slabs chunks every)) bytes text = IsTextOfHistory slabs chunks (script_of 16 bytes) text

@@ -10,7 +10,7 @@ use Rattle.kmemrun.specs.declared.status.Status.TheVariants as status
 use Rattle.kmemrun.specs.declared.status.Ending.{Ending}
 use Rattle.kmemrun.specs.declared.status.Ending.TheVariants.{Fine, Usage, Failed}
 use Rattle.kmemrun.specs.declared.fault.Fault.TheVariants.{BadScript, Read, Write, Limit, NoMemory}
-use Rattle.kmemrun.specs.Answers.{plan_answer}
+use Rattle.kmemrun.specs.Answers.{plan_answer, IsPlanText}
 use Rattle.kmemrun.specs.Endings.{ending_status, ending_line}
 
 -- a stream before and after a run: what the input had left, or what was written, where the stream tells it, and how often it had failed
@@ -30,8 +30,9 @@ IsDueEnding ended due = (ended ≡ due) ⊎ ((ended ≡ Failed NoMemory) ⊎ (en
 
 -- how a plan ends, what it reads and what it writes
 pub record Ends (plan : Option Plan) (input out : Stream) (ended : Ending) : Type 0 where
-  -- at Fine exactly the text for the bytes that were left is written, and all of them are read
-  pub text : ended ≡ Fine → IfSome input.known (λ bytes. IsOkAnd (plan_answer plan bytes) (λ text. Appends out.known out.known_after text))
+  -- at Fine exactly the text for the bytes that were left is written, which is one of a history, and all of them are read
+  pub text : ended ≡ Fine → IfSome input.known (λ bytes. IsOkAnd (plan_answer plan bytes) (λ text.
+      Appends out.known out.known_after text × IsPlanText plan bytes text))
   pub end : ended ≡ Fine → IsAtEnd input.known_after
   -- when each other ending comes
   pub usage : (ended ≡ Usage) ↔ IsNone plan

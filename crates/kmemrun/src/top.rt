@@ -1,16 +1,15 @@
 //! The top call: words and an input to an output, a line on standard error, and a status.
 
-ghost use Rattle.std.specs.Prelude.{◌≡◌, ℕ, List, map, Some, IfSome};
+ghost use Rattle.std.specs.Prelude.{map, IfSome};
 ghost use Rattle.kmem_io.specs.Streams.{CanRise};
 ghost use Rattle.kmem_model.specs.Words.{plan_of, IsInRange};
-ghost use Rattle.kmemrun.specs.Answers.{IsPlanLawful};
 ghost use Rattle.kmemrun.specs.Runs.{stream, Ends, IsRun};
 
 use crate::one::serve_one;
 use crate::status::{Ended, Ending};
 use crate::words::plan_of;
 use kmem_io::{Gate, Sink, Source};
-use kmem_model::{Plan, law_one};
+use kmem_model::Plan;
 use std::alloc::Global;
 use std::sync::Wait;
 use std::thread::Threads;
@@ -31,14 +30,10 @@ pub fn top<T: Wait + Threads + Sync, R: Source, W: Sink, E: Sink, G: Gate>(
     requires err { CanRise (E.faults err.old) }
 
     // What is read, written and told, and when each status comes.
-    ensures run { IsRun (plan_of (map (λ word. word.now) words.now))
+    ensures { IsRun (plan_of (map (λ word. word.now) words.now))
         (stream R.left R.faults input.old input.new) (stream W.written W.faults out.old out.new)
         (stream E.written E.faults err.old err.new) result.status }
-
-    // The replies in it are those that a plain map of records gives, and `full` comes exactly where as many records live as there are buffers.
-    ensures lawful { (bytes : List ℕ) → R.left input.old ≡ Some bytes → IsPlanLawful (plan_of (map (λ word. word.now) words.now)) bytes }
 {
-    law_one();
     let _ = rt;
     let _ = gate;
     let ending = carry_out(alloc, plan_of(words), input, out);

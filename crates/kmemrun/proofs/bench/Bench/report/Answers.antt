@@ -4,7 +4,8 @@ use Rattle.std.specs.Io.KnownBytes.{Appends}
 use Rattle.kmem_io.specs.Streams.{AppendsFront}
 use Rattle.kmem_model.specs.Report.{Report, report_text}
 use Rattle.kmem_model.specs.OneRun.{OneRun, report_of}
-use Rattle.kmem_model.specs.OneRun as one
+use Rattle.kmem_model.specs.Report.{ends_in}
+use Rattle.kmem_model.specs.SettleEntries.{moves_entries}
 use Rattle.kmem_report.specs.Reported.{counts_of, reported}
 use Rattle.consolidator.specs.Tallies.{tally_of}
 use Rattle.kmemrun.specs.Bench.{RunsAt}
