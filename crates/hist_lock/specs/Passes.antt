@@ -1,5 +1,5 @@
 -- What contracts see of a lock and of a pass, and what one turn does. All of it is this project's own.
-use Rattle.std.specs.Prelude.{◌≡◌, ℕ, ◌+◌, ◌^◌, ◌<◌, ◌≤◌, List, [], ◌∷◌, ◌++◌, length, Option}
+use Rattle.std.specs.Prelude.{◌≡◌, ℕ, ◌+◌, ◌^◌, ◌<◌, ◌≤◌, List, [], ◌∷◌, ◌++◌, length, Option, Some}
 use Rattle.atomic_table.specs.Seated.{TableId}
 use Rattle.hist_lock.specs.History.{IsFront, entries_of, listed, told}
 
@@ -35,6 +35,15 @@ pub record MayMeet {E H : Type 0} (pass : PassState E H) (history : List (ℕ ×
   pub exact : entries_of pass.number history ≡ pass.mine
   pub room : length history + pass.left ≤ pass.site.room
   pub bound : pass.site.room < 2 ^ 32
+
+-- the turn's condition holds of each history that the pass's next turn may find, where an object of the lock's home stands for it
+abbrev pub MayRun : {O E H : Type 0} → (O → List (ℕ × E) → Type 0) → (O → H) → (ℕ → H → List (ℕ × E) → Type 0) → PassState E H → Type 0
+MayRun {O} {E} stands home_of can pass =
+    (h : List (ℕ × E)) (object : O) → MayMeet pass h → stands object h → home_of object ≡ pass.site.home → can pass.number pass.site.home h
+
+-- a turn that makes no entry
+abbrev pub IsQuiet : {O E Out : Type 0} → (O → O → List (ℕ × E) → Out → Option E → Type 0) → Type 0
+IsQuiet {O} {E} {Out} tells = (before after : O) (h : List (ℕ × E)) (out : Out) (x : E) → tells before after h out (Some x) → ⊥
 
 -- an object of this home stands for the history
 abbrev pub IsObjectOf : {O E H : Type 0} → (O → List (ℕ × E) → Type 0) → (O → H) → H → List (ℕ × E) → O → Type 0

@@ -1,4 +1,5 @@
-//! What a pass does from the ticket to the next one's: it waits, takes the value, has the turn run, notes the entry, and gives the value back.
+//! What a pass does from the ticket to the next one's: it waits, takes the value, has the turn run, notes the entry, and gives
+//! the value back.
 ghost use Rattle.std.specs.Prelude.{◌≡◌, ◌≢◌, ℕ, ◌+◌, ◌-◌, ◌%◌, ◌^◌, ◌<◌, ◌≤◌, List, [], ◌∷◌, ◌++◌, length, vec_capacity, Option, Some};
 ghost use Rattle.hist_lock.specs.declared.rule.Held.{Held};
 ghost use Rattle.hist_lock.specs.declared.rule.Bounds.{Bounds};
@@ -57,10 +58,13 @@ pub fn run<O: Told, T: Turn<O>>(
     turn: T,
 ) -> (T::Out, Option<O::Entry>)
     requires of { IsSeatOf seat.old.table_id line.now.table_id }
-    requires can { (held : Held O O.Entry) × IsAt Holding ((0, held) ∷ []) seat.old.me × ((h : List (ℕ × O.Entry)) × O.stands held.object h × T.can turn who (O.home held.object) h) }
+    requires can { (held : Held O O.Entry) × IsAt Holding ((0, held) ∷ []) seat.old.me ×
+        ((h : List (ℕ × O.Entry)) × O.stands held.object h × T.can turn who (O.home held.object) h) }
     ensures same { IsSameSeat seat.old seat.new }
     ensures view { seat.new.me.0 ≡ seat.old.me.0 }
-    ensures ran { (old : Held O O.Entry) (rest : seat.old.me.1 ≡ (0, old) ∷ []) → (new : Held O O.Entry) × (seat.new.me.1 ≡ (0, new) ∷ []) × HasRun O.stands O.home (T.can turn who) (T.tells turn who) who old new result.0 result.1 }
+    ensures ran { (old : Held O O.Entry) (rest : seat.old.me.1 ≡ (0, old) ∷ []) →
+        (new : Held O O.Entry) × (seat.new.me.1 ≡ (0, new) ∷ []) ×
+        HasRun O.stands O.home (T.can turn who) (T.tells turn who) who old new result.0 result.1 }
 {
     let held = seat.slot_mut(line, 0);
     turn.run(who, &mut held.object)
@@ -72,7 +76,9 @@ fn push<O: Told>(line: &Line<O>, seat: &mut Place<O>, who: u32, entry: O::Entry)
     requires room { (held : Held O O.Entry) × (seat.old.me.1 ≡ (0, held) ∷ []) × (length held.journal.items < vec_capacity held.journal) }
     ensures same { IsSameSeat seat.old seat.new }
     ensures view { seat.new.me.0 ≡ seat.old.me.0 }
-    ensures pushed { (old : Held O O.Entry) → seat.old.me.1 ≡ (0, old) ∷ [] → (new : Held O O.Entry) × (seat.new.me.1 ≡ (0, new) ∷ []) × (new.object ≡ old.object) × (new.journal.items ≡ old.journal.items ++ (who, entry) ∷ []) × (vec_capacity new.journal ≡ vec_capacity old.journal) }
+    ensures pushed { (old : Held O O.Entry) → seat.old.me.1 ≡ (0, old) ∷ [] →
+        (new : Held O O.Entry) × (seat.new.me.1 ≡ (0, new) ∷ []) × (new.object ≡ old.object) ×
+        (new.journal.items ≡ old.journal.items ++ (who, entry) ∷ []) × (vec_capacity new.journal ≡ vec_capacity old.journal) }
 {
     let held = seat.slot_mut(line, 0);
     held.journal.push_reserved((who, entry));
@@ -87,13 +93,15 @@ pub fn note<O: Told>(
     entry: Option<O::Entry>,
 ) -> u32
     requires of { IsSeatOf seat.old.table_id line.now.table_id }
-    requires holds { (held : Held O O.Entry) × IsAt Holding ((0, held) ∷ []) seat.old.me × (held.journal.items ≡ (own seat.old.me.0).seen) × (length held.journal.items + length (listed entry) ≤ vec_capacity held.journal) }
+    requires holds { (held : Held O O.Entry) × IsAt Holding ((0, held) ∷ []) seat.old.me × (held.journal.items ≡ (own seat.old.me.0).seen) ×
+        (length held.journal.items + length (listed entry) ≤ vec_capacity held.journal) }
     requires who { (own seat.old.me.0).number ≡ who }
     requires exact { entries_of who (own seat.old.me.0).seen ≡ (own seat.old.me.0).mine }
     requires left { (left ≡ seat.old.me.0.left) × (length (listed entry) ≤ left) }
     ensures same { IsSameSeat seat.old seat.new }
     ensures left { (result + length (listed entry) ≡ left) × (seat.new.me.0.left ≡ result) }
-    ensures noted { (old : Held O O.Entry) → seat.old.me.1 ≡ (0, old) ∷ [] → (new : Held O O.Entry) × HasNoted entry old new seat.old.me.0 seat.new.me }
+    ensures noted { (old : Held O O.Entry) → seat.old.me.1 ≡ (0, old) ∷ [] →
+        (new : Held O O.Entry) × HasNoted entry old new seat.old.me.0 seat.new.me }
 {
     match entry {
         Some(entry) => {
@@ -109,7 +117,9 @@ pub fn note<O: Told>(
 /// tickets finds itself served, or waits for one who will wake it.
 pub fn leave<O: Told>(line: &Line<O>, seat: &mut Place<O>)
     requires of { IsSeatOf seat.old.table_id line.now.table_id }
-    requires whole { (held : Held O O.Entry) × (b : Bounds O.Home) × IsAt Holding ((0, held) ∷ []) seat.old.me × (seat.old.me.0.bounds ≡ Some b) × (held.journal.items ≡ (own seat.old.me.0).seen) × O.stands held.object held.journal.items × (O.home held.object ≡ b.home) × (b.room ≤ vec_capacity held.journal) }
+    requires whole { (held : Held O O.Entry) × (b : Bounds O.Home) × IsAt Holding ((0, held) ∷ []) seat.old.me ×
+        (seat.old.me.0.bounds ≡ Some b) × (held.journal.items ≡ (own seat.old.me.0).seen) × O.stands held.object held.journal.items ×
+        (O.home held.object ≡ b.home) × (b.room ≤ vec_capacity held.journal) }
     ensures same { IsSameSeat seat.old seat.new }
     ensures left { seat.new.me ≡ (at_stage Idle seat.old.me.0, []) }
 {

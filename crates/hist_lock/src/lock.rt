@@ -3,7 +3,7 @@ ghost use Rattle.std.specs.Prelude.{◌≡◌, ℕ, ◌+◌, ◌^◌, ◌<◌, �
 ghost use Rattle.hist_lock.specs.History.{IsFront, entries_of};
 ghost use Rattle.std.specs.List.{sum_by, range_with_len};
 ghost use Rattle.table_sums.specs.Spread.{IsNumbering};
-ghost use Rattle.hist_lock.specs.Passes.{MayMeet, IsTurn, fresh_passes};
+ghost use Rattle.hist_lock.specs.Passes.{MayRun, IsQuiet, IsTurn, fresh_passes};
 
 use crate::deal::{deal_all, lay};
 use crate::gather::gather_all;
@@ -71,8 +71,9 @@ impl<O: Told> HistLock<O> {
     pub fn act<T: Turn<O>, R: Wait>(&self, rt: &R, pass: &mut Pass<O>, turn: T) -> T::Out
         requires of { pass.old.site ≡ self.now }
         requires left { 1 ≤ pass.old.left }
-        requires can { (h : List (ℕ × O.Entry)) (object : O) → MayMeet pass.old h → O.stands object h → O.home object ≡ pass.old.site.home → T.can turn pass.old.number pass.old.site.home h }
-        ensures { (h : List (ℕ × O.Entry)) × (entry : Option O.Entry) × IsTurn O.stands O.home (T.tells turn pass.old.number pass.old.site.home) pass.old pass.new result h entry }
+        requires can { MayRun O.stands O.home (T.can turn) pass.old }
+        ensures { (h : List (ℕ × O.Entry)) × (entry : Option O.Entry) ×
+            IsTurn O.stands O.home (T.tells turn pass.old.number pass.old.site.home) pass.old pass.new result h entry }
     {
         let line = &self.table.shared;
         enter(rt, line, &mut pass.seat);
@@ -85,9 +86,10 @@ impl<O: Told> HistLock<O> {
     /// The same for a turn that makes no entry.
     pub fn look<T: Turn<O>, R: Wait>(&self, rt: &R, pass: &mut Pass<O>, turn: T) -> T::Out
         requires of { pass.old.site ≡ self.now }
-        requires can { (h : List (ℕ × O.Entry)) (object : O) → MayMeet pass.old h → O.stands object h → O.home object ≡ pass.old.site.home → T.can turn pass.old.number pass.old.site.home h }
-        requires quiet { (before after : O) (h : List (ℕ × O.Entry)) (out : T.Out) (x : O.Entry) → T.tells turn pass.old.number pass.old.site.home before after h out (Some x) → ⊥ }
-        ensures { (h : List (ℕ × O.Entry)) × IsTurn O.stands O.home (T.tells turn pass.old.number pass.old.site.home) pass.old pass.new result h None }
+        requires can { MayRun O.stands O.home (T.can turn) pass.old }
+        requires quiet { IsQuiet (T.tells turn pass.old.number pass.old.site.home) }
+        ensures { (h : List (ℕ × O.Entry)) ×
+            IsTurn O.stands O.home (T.tells turn pass.old.number pass.old.site.home) pass.old pass.new result h None }
     {
         let line = &self.table.shared;
         enter(rt, line, &mut pass.seat);
@@ -106,7 +108,8 @@ impl<O: Told> HistLock<O> {
         ensures fronts { All (λ p. IsFront p.seen result.1.items) passes.items }
         ensures exact { All (λ p. entries_of p.number result.1.items ≡ p.mine) passes.items }
         ensures numbers { IsNumbering (map (λ p. p.number) passes.items) self.count }
-        ensures weighs { (weight : ℕ → ℕ) → sum_by weight (map (λ p. p.number) passes.items) ≡ sum_by weight (range_with_len 0 self.count) }
+        ensures weighs { (weight : ℕ → ℕ) →
+            sum_by weight (map (λ p. p.number) passes.items) ≡ sum_by weight (range_with_len 0 self.count) }
         ensures room { length result.1.items ≤ self.room }
         ensures others { All (λ x. Contains (map (λ p. p.number) passes.items) x.0) result.1.items }
     {

@@ -45,7 +45,8 @@ pub fn take<O: Told>(line: &Line<O>, seat: &mut Place<O>)
     requires of { IsSeatOf seat.old.table_id line.now.table_id }
     requires called { IsAt Called [] seat.old.me }
     ensures same { IsSameSeat seat.old seat.new }
-    ensures taken { (held : Held O O.Entry) × (seat.new.me ≡ (took held.journal.items seat.old.me.0, (0, held) ∷ [])) × IsFound O.stands O.home seat.old.me.0 held }
+    ensures taken { (held : Held O O.Entry) × (seat.new.me ≡ (took held.journal.items seat.old.me.0, (0, held) ∷ [])) ×
+        IsFound O.stands O.home seat.old.me.0 held }
 {
     let _length = line.load::<Take>(seat, LENGTH);
 }
@@ -53,7 +54,8 @@ pub fn take<O: Told>(line: &Line<O>, seat: &mut Place<O>)
 /// Raises the length. The entry at the end of the journal takes effect here.
 pub fn raise<O: Told>(line: &Line<O>, seat: &mut Place<O>)
     requires of { IsSeatOf seat.old.table_id line.now.table_id }
-    requires holds { (held : Held O O.Entry) × (x : O.Entry) × IsAt Holding ((0, held) ∷ []) seat.old.me × (held.journal.items ≡ (own seat.old.me.0).seen ++ ((own seat.old.me.0).number, x) ∷ []) }
+    requires holds { (held : Held O O.Entry) × (x : O.Entry) × IsAt Holding ((0, held) ∷ []) seat.old.me ×
+        (held.journal.items ≡ (own seat.old.me.0).seen ++ ((own seat.old.me.0).number, x) ∷ []) }
     requires left { 1 ≤ seat.old.me.0.left }
     ensures same { IsSameSeat seat.old seat.new }
     ensures raised { seat.new.me ≡ (raised (journal_of seat.old.me.1) seat.old.me.0, seat.old.me.1) }
@@ -64,7 +66,9 @@ pub fn raise<O: Told>(line: &Line<O>, seat: &mut Place<O>)
 /// Gives the value back.
 pub fn give<O: Told>(line: &Line<O>, seat: &mut Place<O>)
     requires of { IsSeatOf seat.old.table_id line.now.table_id }
-    requires whole { (held : Held O O.Entry) × (b : Bounds O.Home) × IsAt Holding ((0, held) ∷ []) seat.old.me × (seat.old.me.0.bounds ≡ Some b) × (held.journal.items ≡ (own seat.old.me.0).seen) × O.stands held.object held.journal.items × (O.home held.object ≡ b.home) × (b.room ≤ vec_capacity held.journal) }
+    requires whole { (held : Held O O.Entry) × (b : Bounds O.Home) × IsAt Holding ((0, held) ∷ []) seat.old.me ×
+        (seat.old.me.0.bounds ≡ Some b) × (held.journal.items ≡ (own seat.old.me.0).seen) × O.stands held.object held.journal.items ×
+        (O.home held.object ≡ b.home) × (b.room ≤ vec_capacity held.journal) }
     ensures same { IsSameSeat seat.old seat.new }
     ensures given { seat.new.me ≡ (at_stage Called seat.old.me.0, []) }
 {
@@ -84,7 +88,8 @@ pub fn serve<O: Told>(line: &Line<O>, seat: &mut Place<O>) -> u64
 /// Deals the next pass's seat.
 pub fn split<O: Told, Q: Quota>(line: &Line<O>, dealer: &mut Place<O>) -> Place<O>
     requires of { IsSeatOf dealer.old.table_id line.now.table_id }
-    requires deals { (n : ℕ) × (b : Bounds O.Home) × (dealer.old.me.0.stage ≡ Idle) × (dealer.old.me.0.claims ≡ []) × (dealer.old.me.0.dealt ≡ Some n) × (dealer.old.me.0.bounds ≡ Some b) × (n < b.count) × (Q.quota ≤ dealer.old.me.0.left) }
+    requires deals { (n : ℕ) × (b : Bounds O.Home) × (dealer.old.me.0.stage ≡ Idle) × (dealer.old.me.0.claims ≡ []) ×
+        (dealer.old.me.0.dealt ≡ Some n) × (dealer.old.me.0.bounds ≡ Some b) × (n < b.count) × (Q.quota ≤ dealer.old.me.0.left) }
     ensures same { IsSameSeat dealer.old dealer.new }
     ensures dealt { dealer.new.me ≡ (dealt_one Q.quota dealer.old.me.0, dealer.old.me.1) }
     ensures seat { (result.table_id ≡ dealer.old.table_id) × (result.me ≡ (newcomer Q.quota dealer.old.me.0, [])) }

@@ -139,19 +139,23 @@ fn add_four<R: Threads + Wait + Sync>(
     other: (Done, Done),
 ) -> ((Done, Done), (Done, Done))
     requires most { lock.now.home ≡ 10000000 }
-    requires one { MayAdd lock.now one.0.pass one.0.found.items (vec_capacity one.0.found) × MayAdd lock.now one.1.pass one.1.found.items (vec_capacity one.1.found) }
-    requires other { MayAdd lock.now other.0.pass other.0.found.items (vec_capacity other.0.found) × MayAdd lock.now other.1.pass other.1.found.items (vec_capacity other.1.found) }
+    requires one { MayAdd lock.now one.0.pass one.0.found.items (vec_capacity one.0.found) ×
+        MayAdd lock.now one.1.pass one.1.found.items (vec_capacity one.1.found) }
+    requires other { MayAdd lock.now other.0.pass other.0.found.items (vec_capacity other.0.found) ×
+        MayAdd lock.now other.1.pass other.1.found.items (vec_capacity other.1.found) }
     ensures one { (result.0.0.pass.site ≡ lock.now) × (result.0.1.pass.site ≡ lock.now) }
     ensures other { (result.1.0.pass.site ≡ lock.now) × (result.1.1.pass.site ≡ lock.now) }
 {
     join(
         rt,
         move || -> (Done, Done)
-            requires { (lock.now.home ≡ 10000000) × MayAdd lock.now one.0.pass one.0.found.items (vec_capacity one.0.found) × MayAdd lock.now one.1.pass one.1.found.items (vec_capacity one.1.found) }
+            requires { (lock.now.home ≡ 10000000) × MayAdd lock.now one.0.pass one.0.found.items (vec_capacity one.0.found) ×
+                MayAdd lock.now one.1.pass one.1.found.items (vec_capacity one.1.found) }
             ensures { (result.0.pass.site ≡ lock.entry.now) × (result.1.pass.site ≡ lock.entry.now) }
         { add_both(rt, lock, one.0, one.1) },
         move || -> (Done, Done)
-            requires { (lock.now.home ≡ 10000000) × MayAdd lock.now other.0.pass other.0.found.items (vec_capacity other.0.found) × MayAdd lock.now other.1.pass other.1.found.items (vec_capacity other.1.found) }
+            requires { (lock.now.home ≡ 10000000) × MayAdd lock.now other.0.pass other.0.found.items (vec_capacity other.0.found) ×
+                MayAdd lock.now other.1.pass other.1.found.items (vec_capacity other.1.found) }
             ensures { (result.0.pass.site ≡ lock.entry.now) × (result.1.pass.site ≡ lock.entry.now) }
         { add_both(rt, lock, other.0, other.1) },
     )

@@ -34,5 +34,7 @@ pub trait Turn<O: Told> {
     fn run(self, who: u32, object: &mut O) -> (Self::Out, Option<O::Entry>)
         requires { (h : List (ℕ × O.Entry)) × O.stands object.old h × can self who (O.home object.old) h }
         ensures home { O.home object.new ≡ O.home object.old }
-        ensures told { (h : List (ℕ × O.Entry)) → O.stands object.old h → can self who (O.home object.old) h → O.stands object.new (told h who result.1) × tells self who (O.home object.old) object.old object.new h result.0 result.1 };
+        ensures told { (h : List (ℕ × O.Entry)) → O.stands object.old h → can self who (O.home object.old) h →
+            O.stands object.new (told h who result.1) ×
+            tells self who (O.home object.old) object.old object.new h result.0 result.1 };
 }

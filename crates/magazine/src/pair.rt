@@ -61,7 +61,9 @@ impl<X: Drop> Pair<X> {
     pub fn put(&mut self, buf: Buffer<X>) -> Result<(), Buffer<X>>
         ensures result { result ≡ (put_to buf self.old.loaded self.old.previous).0 }
         ensures layer { self.new ≡ (put_to buf self.old.loaded self.old.previous).1 }
-        ensures stack { MatchResult result (λ _. (length (layer_rounds self.old) < 16) × (layer_rounds self.new ≡ buf ∷ layer_rounds self.old)) (λ back. (back ≡ buf) × IsFull self.old.loaded × IsFull self.old.previous × (self.new ≡ self.old)) }
+        ensures stack { MatchResult result
+            (λ _. (length (layer_rounds self.old) < 16) × (layer_rounds self.new ≡ buf ∷ layer_rounds self.old))
+            (λ back. (back ≡ buf) × IsFull self.old.loaded × IsFull self.old.previous × (self.new ≡ self.old)) }
         ensures kept { IsLayer self.new }
     {
         if self.loaded.len() == ROUNDS {

@@ -7,5 +7,6 @@ ghost use Rattle.table_sums.specs.Spread.{IsNumbering};
 
 /// Numbers that weigh the same as 0, 1 and so on up to a count, however numbers are weighed, are these, each once.
 pub fn law_numbering()
-    ensures { (numbers : List ℕ) (count : ℕ) → ((weight : ℕ → ℕ) → sum_by weight numbers ≡ sum_by weight (range_with_len 0 count)) → IsNumbering numbers count }
+    ensures { (numbers : List ℕ) (count : ℕ) →
+        ((weight : ℕ → ℕ) → sum_by weight numbers ≡ sum_by weight (range_with_len 0 count)) → IsNumbering numbers count }
 {}

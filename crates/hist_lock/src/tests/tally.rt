@@ -39,7 +39,8 @@ impl Turn<Tally> for Add {
 
     ghost can = { λ add who most history. (add.0 ≤ most) × (length history + 1 < 2 ^ 32) };
 
-    ghost tells = { λ add who most before after history out entry. (out ≡ sum_of history) × (entry ≡ Some add.0) × (out ≡ before.sum) × (after.sum ≡ before.sum + add.0) };
+    ghost tells = { λ add who most before after history out entry.
+        (out ≡ sum_of history) × (entry ≡ Some add.0) × (out ≡ before.sum) × (after.sum ≡ before.sum + add.0) };
 
     fn run(self, _who: u32, object: &mut Tally) -> (u64, Option<u32>) {
         let before = object.sum;
@@ -61,7 +62,8 @@ impl Turn<Tally> for Read {
 
     ghost can = { λ read who most history. Unit {0} };
 
-    ghost tells = { λ read who most before after history out entry. (out ≡ sum_of history) × (entry ≡ None) × (out ≡ before.sum) × (after ≡ before) };
+    ghost tells = { λ read who most before after history out entry.
+        (out ≡ sum_of history) × (entry ≡ None) × (out ≡ before.sum) × (after ≡ before) };
 
     fn run(self, _who: u32, object: &mut Tally) -> (u64, Option<u32>) {
         (object.sum, None)
