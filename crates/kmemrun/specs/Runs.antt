@@ -38,13 +38,16 @@ pub record Ends (plan : Option Plan) (input out : Stream) (ended : Ending) : Typ
   pub usage : (ended ≡ Usage) ↔ IsNone plan
   pub read_fault : (ended ≡ Failed Read) ↔ (input.faults < input.faults_after)
   pub limit : ended ≡ Failed Limit → IfSome input.known (λ bytes. IsErrOf (plan_answer plan bytes) (Failed Limit))
-  pub bad_script : (line : ℕ) (f : LineFault) → ended ≡ Failed (BadScript line f) → IfSome input.known (λ bytes. IsErrOf (plan_answer plan bytes) (Failed (BadScript line f)))
-  pub first_bad : (line : ℕ) (f : LineFault) → ended ≡ Failed (BadScript line f) → IfSome input.known (λ bytes. first_bad_of 16 bytes ≡ Some (line, f))
+  pub bad_script : (line : ℕ) (f : LineFault) → ended ≡ Failed (BadScript line f) →
+      IfSome input.known (λ bytes. IsErrOf (plan_answer plan bytes) (Failed (BadScript line f)))
+  pub first_bad : (line : ℕ) (f : LineFault) → ended ≡ Failed (BadScript line f) →
+      IfSome input.known (λ bytes. first_bad_of 16 bytes ≡ Some (line, f))
   pub write_fault : (ended ≡ Failed Write) ↔ (out.faults < out.faults_after)
   pub due : IfSome input.known (λ bytes. (due : Ending) → IsErrOf (plan_answer plan bytes) due → IsDueEnding ended due)
   pub fine : IfSome input.known (λ bytes. IsOk (plan_answer plan bytes) → (ended ≡ Failed Write) ⊎ IsDueEnding ended Fine)
   -- what they leave: a front of the text after a write fault, and else nothing
-  pub front : ended ≡ Failed Write → IfSome input.known (λ bytes. IsOkAnd (plan_answer plan bytes) (λ text. AppendsFront out.known out.known_after text))
+  pub front : ended ≡ Failed Write → IfSome input.known (λ bytes.
+      IsOkAnd (plan_answer plan bytes) (λ text. AppendsFront out.known out.known_after text))
   pub untouched : ended ≢ Fine → ended ≢ Failed Write → Keeps out.known out.known_after
 
 -- a front of the ending's line was told; the whole, where standard error did not fail

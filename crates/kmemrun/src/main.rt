@@ -66,7 +66,8 @@ fn run<T: Wait + Threads + Sync, R: Source, W: Sink, E: Sink>(
     requires out { CanRise (W.faults out.old) }
     requires err { CanRise (E.faults err.old) }
     ensures { IsRunOrWanting (plan_of (map string_bytes given.now))
-        (stream R.left R.faults input.old input.new) (stream W.written W.faults out.old out.new) (stream E.written E.faults err.old err.new) result }
+        (stream R.left R.faults input.old input.new) (stream W.written W.faults out.old out.new)
+        (stream E.written E.faults err.old err.new) result }
 {
     match as_words(alloc, given) {
         Ok(words) => top(rt, alloc, &words, input, out, err, &Open).status,
