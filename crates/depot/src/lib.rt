@@ -1,8 +1,16 @@
-//! The depot: full and empty magazines that the workers of a cache share.
+//! The depot: full and empty magazines that the workers of a cache share. No call of it waits.
 #![tactic(auto)]
 
-mod list;
+mod drain;
+mod gather;
+mod places;
+mod room;
+mod rule;
+mod seat;
+mod shared_depot;
+mod steps;
 #[cfg(test)]
 mod tests;
 
-pub use list::ListDepot;
+pub use seat::DepotSeat;
+pub use shared_depot::Depot;

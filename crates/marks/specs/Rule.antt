@@ -6,7 +6,7 @@ use Rattle.atomic_table.specs.Table.{State, Me, Step}
 use Rattle.atomic_table.specs.Seated.{TableId}
 use Rattle.atomic_table.specs.declared.shared.Seat.{Seat}
 use Rattle.marks.specs.declared.rule.View.{View}
-use Rattle.marks.specs.Words.{is_known, IsWordOf}
+use Rattle.marks.specs.Words.{is_known_word, IsWordOf}
 
 -- the pen's view at first: none of so many words is known
 abbrev pub pen_view : ℕ → View
@@ -26,7 +26,7 @@ IsPen table v = (v.pen ≡ Some (known_of v)) × (length (known_of v) + 1 ≡ ta
 
 -- the pen has the first seat, and its view is which words are known
 abbrev pub FitsPen : List ℕ → ℕ → View → Type 0
-FitsPen words id v = (known : List Bool) → v.pen ≡ Some known → (id ≡ 0) × (map is_known words ≡ known ++ false ∷ [])
+FitsPen words id v = (known : List Bool) → v.pen ≡ Some known → (id ≡ 0) × (map is_known_word words ≡ known ++ false ∷ [])
 
 -- each word is one that its buffer can have, and the pen's view is which of them are known
 pub record IsMarked (s : State (Unit {0}) View) : Type 0 where
@@ -42,10 +42,10 @@ abbrev pub rewritten : ℕ → Bool → View → View
 rewritten word known v = record v { pen = Some (slice_set (known_of v) word known) }
 
 abbrev pub Found : Step (Unit {0}) → Me (Unit {0}) View → ℕ → Me (Unit {0}) View → Type 0
-Found s me found me' = me' ≡ (looked s.word (is_known found) me.0, me.1)
+Found s me found me' = me' ≡ (looked s.word (is_known_word found) me.0, me.1)
 
 abbrev pub Wrote : Step (Unit {0}) → Me (Unit {0}) View → ℕ → Me (Unit {0}) View → Type 0
-Wrote s me stored me' = me' ≡ (rewritten s.word (is_known stored) me.0, me.1)
+Wrote s me stored me' = me' ≡ (rewritten s.word (is_known_word stored) me.0, me.1)
 
 abbrev pub IsSameSeat : Seat (Unit {0}) View → Seat (Unit {0}) View → Type 0
 IsSameSeat s t = (t.table_id ≡ s.table_id) × (t.id ≡ s.id)

@@ -1,11 +1,12 @@
 -- What a word says, and what contracts see of the words, of their pen and of a seat.
--- That a client marks the buffers it knows by the two low bits of a word is from the theory statement of the kernel's kmem.c; the rest is this project's own.
+-- That a client tells a known object by the two low bits of a word is from the theory statement of the kernel's kmem.c; the rest
+-- is this project's own.
 use Rattle.std.specs.Prelude.{◌≡◌, ◌⊎◌, ◌==◌, ℕ, ◌+◌, ◌*◌, ◌%◌, Bool, List, Option, Some, None, slice_set}
 use Rattle.atomic_table.specs.Seated.{TableId}
 
 -- a word is known where its two low bits are clear
-abbrev pub is_known : ℕ → Bool
-is_known word = (word % 4) == 0
+abbrev pub is_known_word : ℕ → Bool
+is_known_word word = (word % 4) == 0
 
 -- the words that a buffer can have: never known, known, given up
 abbrev pub IsWordOf : ℕ → ℕ → Type 0
@@ -28,13 +29,13 @@ pub record MarkSeatState : Type 0 where
   pub last : Option (ℕ × Bool)
 
 -- a seat of this table that has made no load
-abbrev pub fresh_seat : TableId → MarkSeatState
-fresh_seat home = record { home = home; loads = 0; last = None }
+abbrev pub fresh_mark_seat : TableId → MarkSeatState
+fresh_mark_seat home = record { home = home; loads = 0; last = None }
 
 -- the seat after one more load, of this buffer, that found its word known, or not
-abbrev pub loaded : ℕ → Bool → MarkSeatState → MarkSeatState
-loaded buffer found seat = record seat { loads = seat.loads + 1; last = Some (buffer, found) }
+abbrev pub mark_seat_after : ℕ → Bool → MarkSeatState → MarkSeatState
+mark_seat_after buffer found seat = record seat { loads = seat.loads + 1; last = Some (buffer, found) }
 
 -- the pen after the word of this buffer, and no other, became known, or unknown
-abbrev pub written : ℕ → Bool → MarkPenState → MarkPenState
-written buffer known pen = record pen { known = slice_set pen.known buffer known }
+abbrev pub pen_after : ℕ → Bool → MarkPenState → MarkPenState
+pen_after buffer known pen = record pen { known = slice_set pen.known buffer known }

@@ -1,6 +1,6 @@
 //! The table of known words, its pen and its seats.
 ghost use Rattle.std.specs.Prelude.{◌≡◌, ◌+◌, ◌*◌, ◌<◌, ◌≤◌, true, false, [], replicate, vec_capacity, IfOk};
-ghost use Rattle.marks.specs.Words.{loaded, written, fresh_seat};
+ghost use Rattle.marks.specs.Words.{mark_seat_after, pen_after, fresh_mark_seat};
 ghost use Rattle.marks.specs.Rule.{pen_view};
 
 use crate::rule::{Line, Place, Whole};
@@ -84,7 +84,7 @@ fn deal(line: &Line, pen: &mut Place, seats: u32, mut dealt: Vec<MarkSeat>) -> V
     requires none { dealt.items ≡ [] }
     requires room { seats ≤ vec_capacity dealt }
     ensures same { (pen.new.table_id ≡ pen.old.table_id) × (pen.new.me ≡ pen.old.me) }
-    ensures seats { result.items ≡ replicate seats (fresh_seat pen.old.table_id) }
+    ensures seats { result.items ≡ replicate seats (fresh_mark_seat pen.old.table_id) }
 {
     for _ in 0..seats {
         let seat = split(line, pen);
@@ -102,7 +102,7 @@ impl Marks {
     ) -> Result<(Marks, MarkPen, Vec<MarkSeat>), AllocError>
         ensures buffers { IfOk result (λ r. r.0.buffers ≡ buffers) }
         ensures pen { IfOk result (λ r. r.1 ≡ record { home = r.0.home; known = replicate buffers false }) }
-        ensures seats { IfOk result (λ r. r.2.items ≡ replicate seats (fresh_seat r.0.home)) }
+        ensures seats { IfOk result (λ r. r.2.items ≡ replicate seats (fresh_mark_seat r.0.home)) }
     {
         let room = Vec::with_capacity(alloc, seats as usize)?;
         let (table, mut seat) = lay(alloc, buffers)?;
@@ -114,7 +114,7 @@ impl Marks {
     pub fn known(&self, seat: &mut MarkSeat, b: u32) -> bool
         requires home { seat.old.home ≡ self.now.home }
         requires in_range { b < self.now.buffers }
-        ensures { seat.new ≡ loaded b result seat.old }
+        ensures { seat.new ≡ mark_seat_after b result seat.old }
     {
         load(&self.table.shared, &mut seat.seat, b as usize) % 4 == 0
     }
@@ -123,7 +123,7 @@ impl Marks {
     pub fn set(&self, pen: &mut MarkPen, b: u32)
         requires home { pen.old.home ≡ self.now.home }
         requires in_range { b < self.now.buffers }
-        ensures { pen.new ≡ written b true pen.old }
+        ensures { pen.new ≡ pen_after b true pen.old }
     {
         let word = known_word(b);
         store(&self.table.shared, &mut pen.seat, b as usize, word);
@@ -133,7 +133,7 @@ impl Marks {
     pub fn clear(&self, pen: &mut MarkPen, b: u32)
         requires home { pen.old.home ≡ self.now.home }
         requires in_range { b < self.now.buffers }
-        ensures { pen.new ≡ written b false pen.old }
+        ensures { pen.new ≡ pen_after b false pen.old }
     {
         let word = known_word(b) + 1;
         store(&self.table.shared, &mut pen.seat, b as usize, word);
