@@ -1,5 +1,5 @@
 -- What a run of the program does to its streams, and when it ends how (this project's own rule).
-use Rattle.std.specs.Prelude.{◌≡◌, ◌≢◌, ◌<◌, ◌↔◌, ◌⊎◌, ℕ, List, Option, Some, IsNone, IfSome, IsOk, IsOkAnd, IsErrOf}
+use Rattle.std.specs.Prelude.{◌≡◌, ◌≢◌, ◌<◌, ◌≤◌, ◌↔◌, ◌⊎◌, ℕ, List, Option, Some, IsNone, IfSome, IsOk, IsOkAnd, IsErrOf}
 use Rattle.std.specs.Io.KnownBytes.{Appends, Keeps, IsAtEnd}
 use Rattle.kmem_io.specs.Streams.{AppendsFront}
 use Rattle.kmem_text.specs.Grammar.{first_bad_of}
@@ -42,6 +42,7 @@ pub record Ends (plan : Option Plan) (input out : Stream) (ended : Ending) : Typ
       IfSome input.known (λ bytes. IsErrOf (plan_answer plan bytes) (Failed (BadScript line f)))
   pub first_bad : (line : ℕ) (f : LineFault) → ended ≡ Failed (BadScript line f) →
       IfSome input.known (λ bytes. first_bad_of 16 bytes ≡ Some (line, f))
+  pub counted : (line : ℕ) (f : LineFault) → ended ≡ Failed (BadScript line f) → 1 ≤ line
   pub write_fault : (ended ≡ Failed Write) ↔ (out.faults < out.faults_after)
   pub due : IfSome input.known (λ bytes. (due : Ending) → IsErrOf (plan_answer plan bytes) due → IsDueEnding ended due)
   pub fine : IfSome input.known (λ bytes. IsOk (plan_answer plan bytes) → (ended ≡ Failed Write) ⊎ IsDueEnding ended Fine)

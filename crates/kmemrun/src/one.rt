@@ -60,6 +60,7 @@ pub fn serve_one<R: Source, W: Sink>(
         IsErrOf (one_answer slabs chunks every bytes) (Fault.BadScript line check)))) }
     ensures first_bad { IfErr result (λ fault. IfBadScript fault (λ line check. IfSome (R.left input.old) (λ bytes.
         first_bad_of 16 bytes ≡ Some (line, check)))) }
+    ensures counted { IfErr result (λ fault. IfBadScript fault (λ line check. 1 ≤ line)) }
     ensures write { IsErrOf result Fault.Write ↔ (W.faults out.old < W.faults out.new) }
     ensures due { IfSome (R.left input.old) (λ bytes. (due : Fault) → IsErrOf (one_answer slabs chunks every bytes) due → IsDue result due) }
     ensures fine { IfSome (R.left input.old) (λ bytes. IsOk (one_answer slabs chunks every bytes) → IsFineButForStreams result) }
