@@ -1,16 +1,14 @@
 -- What the entries of a history make out and free adds up to the buffers out, and what they begin and end to the moves pending.
-use Rattle.std.proofs.Common.{◌≡◌, ℕ, zero, suc, ◌+◌, ◌*◌, ◌/◌, ◌%◌, ◌<◌, ◌≤◌, ◌==◌, ◌&&◌, ◌++◌, ◌⊎◌, ◌≢◌, inl, inr, nat_lt, not, Bool, true, false, cond, List, [], ◌∷◌, length, map, filter, replicate, get_or, set, count_by, All, Option, Some, None, is_some, is_none, option_map, option_and_then, ⊎_elim, sym, ◌∙◌, ap, ap₂, refl, subst, arith, add-zero}
-use Rattle.std.specs.List.{sum_by, sum}
-use Rattle.std.specs.Bool.{then_some}
+use Rattle.std.proofs.Common.{◌≡◌, ℕ, zero, suc, ◌+◌, ◌*◌, ◌/◌, ◌%◌, ◌<◌, ◌==◌, ◌&&◌, ◌++◌, ◌⊎◌, ◌≢◌, inl, inr, nat_lt, not, Bool, true, false, cond, List, [], ◌∷◌, length, map, set, count_by, All, Option, Some, None, is_some, is_none, option_map, option_and_then, ⊎_elim, sym, ◌∙◌, ap, ap₂, refl, subst, arith, add-zero}
+use Rattle.std.specs.List.{sum_by}
 use Rattle.std.specs.Option.{option_or}
-use Rattle.std.proofs.lemmas.Bool.{cases_lt, le-ltb, lt-ltb, cases_eq, cases_Bool, both_ways, cond-true, cond-false, cond_both, and_parts, not-true, eq-eqb, ne_eqb}
-use Rattle.std.proofs.lemmas.List.{get_or_default, set_past, length-replicate}
+use Rattle.std.proofs.lemmas.Bool.{cases_lt, le-ltb, lt-ltb, cases_eq, both_ways, cond-true, cond-false, cond_both, and_parts, not-true, eq-eqb, ne_eqb}
 use Rattle.std.proofs.lemmas.List.Sums.{sum_by-cons, sum_by-set}
 use Rattle.std.proofs.lemmas.List.Folds.{sum_by-replicate}
 use Rattle.std.proofs.lemmas.Nat.{div-mul-add, mod-mul-add}
-use Rattle.kmem_model.proofs.CacheLists.{reads_within, count-set_more, count-set_less, count-set_same, count_from_none, count-cons, passes_none}
+use Rattle.kmem_model.proofs.CacheLists.{reads_within, count-set_more, count-set_less, passes_none}
 use Rattle.kmem_model.proofs.CacheSearch.{least_from_some, foremost_from_some, is_none_says}
-use Rattle.kmem_model.proofs.CacheChoices.{map_says, is_the_says, same_standing_says, partial_within}
+use Rattle.kmem_model.proofs.CacheChoices.{map_says, is_the_says, same_standing_says}
 use Rattle.kmem_model.proofs.CacheKept.{FitsCount, IsKeptState, IsKeptSlab, enter_kept, opening_kept}
 use Rattle.kmem_model.proofs.PlacesKept.{then_some_says, and_then_says}
 use Rattle.kmem_model.proofs.Outs.{listed_out, freed_out, out_on}
@@ -18,7 +16,7 @@ use Rattle.kmem_model.proofs.SettleMove.{answered_out}
 use Rattle.kmem_model.proofs.SettleFewest.{out_forgotten}
 use Rattle.kmem_model.specs.CacheState.{sizes_of, SlabState, CacheState, no_slab, slab_in_source, slab_at, is_in_source, is_dead, is_listed, used, is_out, is_out_on, move_at, has_pending, out_count, pending_count, opening}
 use Rattle.kmem_model.specs.CacheOrder.{least_below, IsLeastBelow, IsForemost, is_the, is_partial, comes_before, first_partial, least_free, first_partial_free, first_of_slab, wanted, is_idle, chosen, free_number}
-use Rattle.kmem_model.specs.CacheEnter.{unmarked, slab_listed, slab_taken, slab_freed, slab_given_back, slab_answered, on_slab_of, with_out, emptied_goes, freed, all_freed, handed_back, without_move, with_move, with_answer, scan_started, may_take, may_begin, gone, ended, enter}
+use Rattle.kmem_model.specs.CacheEnter.{unmarked, slab_taken, slab_freed, slab_given_back, slab_answered, on_slab_of, with_out, emptied_goes, freed, all_freed, handed_back, without_move, with_move, with_answer, scan_started, may_take, may_begin, gone, ended, enter}
 use Rattle.kmem_model.specs.CacheHistory.{state_after, entered_all, Follows}
 use Rattle.kmem_model.specs.CacheCounts.{made_out, handed_by, made_free, moves_begun, moves_ended, total, entries_in, entries_by, total_before}
 use Rattle.kmem_model.specs.declared.cache_state.Standing.{Standing}
@@ -57,7 +55,7 @@ freed_count s t b e =
     let on = out_on s b says.0 in
     ap (λ x. out_count x + 1) (sym says.1)
     ∙ (on_slab_count s b 0 1 (slab_freed (emptied_goes s)) on.0
-        (omega (arith, freed_used (emptied_goes s) (slab_at s.slabs (b / s.chunks)) (b % s.chunks) says.0))
+    (omega (arith, freed_used (emptied_goes s) (slab_at s.slabs (b / s.chunks)) (b % s.chunks) says.0))
     ∙ add-zero (out_count s))
 
 all_freed_count : (bs : List ℕ) (s t : CacheState) → all_freed s bs ≡ Some t → out_count t + length bs ≡ out_count s
@@ -80,8 +78,11 @@ without_move_count s j =
 with_answer_count : (s : CacheState) (b : ℕ) (said : Said) → out_count (with_answer s b said) ≡ out_count s
 with_answer_count s b said =
     cond_both (is_out s b) _ _ (λ (t : CacheState). out_count t ≡ out_count s)
-    (λ out. omega (arith, on_slab_count s b 0 0 (slab_answered said) (out_on s b out).0
-        (ap (λ flags. count_by (λ x. x) flags + 0) (answered_out said (slab_at s.slabs (b / s.chunks)) (b % s.chunks)))))
+    (λ out. omega (
+      arith,
+      on_slab_count s b 0 0 (slab_answered said) (out_on s b out).0
+          (ap (λ flags. count_by (λ x. x) flags + 0) (answered_out said (slab_at s.slabs (b / s.chunks)) (b % s.chunks))),
+    ))
     (λ free. refl)
 
 -- Buffers that may be taken
@@ -140,7 +141,7 @@ wanted_free : (s : CacheState) (b : ℕ) → IsKeptState s → wanted s ≡ Some
 wanted_free s b kept e =
     ⊎_elim (λ partial. partial_free s b kept partial)
     (λ others. ⊎_elim (λ source. slab_free s is_in_source b source_apart kept source) (λ dead. slab_free s is_dead b dead_apart kept dead)
-        (or_says (first_of_slab s.chunks s.slabs is_in_source) (first_of_slab s.chunks s.slabs is_dead) b others))
+    (or_says (first_of_slab s.chunks s.slabs is_in_source) (first_of_slab s.chunks s.slabs is_dead) b others))
     (or_says (first_partial_free s.chunks s.slabs) (option_or (first_of_slab s.chunks s.slabs is_in_source) (first_of_slab s.chunks s.slabs is_dead)) b e)
   where
     source_apart : (slab : SlabState) → is_in_source slab ≡ true → is_listed slab ≡ false

@@ -1,20 +1,19 @@
 -- Which tags are in use after a history, and that a record is fixed only by a `fix`.
-use Rattle.std.proofs.Common.{◌≡◌, ◌≢◌, ℕ, zero, suc, ◌+◌, ◌*◌, ◌-◌, ◌<◌, ◌≤◌, ◌==◌, ◌&&◌, ◌||◌, ◌++◌, ◌⊎◌, inl, inr, Bool, true, false, cond, List, [], ◌∷◌, All, length, map, filter, replicate, get_or, set, Option, Some, None, is_some, option_map, ⊎_elim, sym, ◌∙◌, ap, ap₂, refl, subst, arith}
+use Rattle.std.proofs.Common.{◌≡◌, ◌≢◌, ℕ, zero, suc, ◌+◌, ◌*◌, ◌-◌, ◌<◌, ◌==◌, ◌&&◌, ◌||◌, ◌⊎◌, inl, inr, Bool, true, false, cond, List, [], ◌∷◌, All, length, map, get_or, set, Option, Some, None, is_some, option_map, ⊎_elim, sym, ◌∙◌, ap, refl, arith}
 use Rattle.std.specs.List.{list_any}
 use Rattle.std.specs.Option.{option_map_or}
-use Rattle.std.proofs.lemmas.Bool.{cases_lt, cases_eq, cases_Bool, both_ways, cond-true, cond-false, cond_both, eq-eqb, ne_eqb, eqb-true, and_parts, and_from, and_left, and_right, false≢true}
-use Rattle.std.proofs.lemmas.List.{get_or-set_same, get_or-set_other, get_or_past, set_past, length-set, length-replicate, length-append, get_or_append_left, get_or-append_right}
-use Rattle.kmem_text.specs.Grammar.{IsWithinNames, IsWithinTags}
+use Rattle.std.proofs.lemmas.Bool.{cases_lt, cases_eq, cases_Bool, both_ways, cond-true, cond-false, cond_both, eq-eqb, ne_eqb, and_from, and_left, and_right, false≢true}
+use Rattle.std.proofs.lemmas.List.{get_or-set_same, get_or-set_other, get_or_past, set_past, length-set, get_or_append_left, get_or-append_right}
+use Rattle.kmem_text.specs.Grammar.{IsWithinTags}
 use Rattle.kmem_text.specs.declared.command.NameId.{NameId}
-use Rattle.kmem_text.specs.declared.command.Tag.{Tag}
 use Rattle.kmem_text.specs.declared.command.Command.{Command}
 use Rattle.kmem_text.specs.declared.command.Command.TheVariants.{Put, Get, Del, First, Next, Count, Link, Hold, Read, Write, Drop, Fix, Loose}
 use Rattle.kmem_text.specs.declared.command.Reply.{Reply}
 use Rattle.kmem_text.specs.declared.command.Reply.TheVariants.{Full, Done}
 use Rattle.kmem_model.specs.declared.record_entry.RecordEntry.{RecordEntry}
-use Rattle.kmem_model.specs.Records.{Record, RecordMap, tag_place, no_records, id_of, held_at, record_at, is_used, least_name, name_count, with_record, changed_at, with_value, with_fixed, with_name, with_tag, without_unused}
+use Rattle.kmem_model.specs.Records.{Record, RecordMap, tag_place, no_records, id_of, held_at, record_at, is_used, least_name, name_count, with_record, changed_at, with_fixed, with_name, with_tag, without_unused}
 use Rattle.kmem_model.specs.RecordStep.{Step, put_step, get_step, del_step, at_step, link_step, hold_step, read_step, write_step, drop_step, fix_step, step, leaves_tags}
-use Rattle.kmem_model.specs.History.{worker_of, is_refusal, map_next, map_after, is_put_of_absent, IsRight, IsLegalHistory, IsEntryWithin, is_done, is_hold_of, is_drop_of, takes_tag, drops_tag, in_use, own_entries, IsTaken, is_hold, is_fix, has_held, has_fixed}
+use Rattle.kmem_model.specs.History.{worker_of, is_refusal, map_next, map_after, IsRight, IsLegalHistory, IsEntryWithin, is_done, is_hold_of, is_drop_of, takes_tag, drops_tag, in_use, own_entries, IsTaken, is_hold, is_fix, has_held, has_fixed}
 use Rattle.kmem_model.specs.OneRun.{is_fixed}
 use Rattle.kmem_model.proofs.Legal.{step_no_refusal}
 use Rattle.kmem_model.proofs.StepTags.{tags_stay, tag_held, tag_not_held, tag_dropped}
@@ -81,9 +80,9 @@ same_place : (p q t u : ℕ) → t < 8 → u < 8 → (tag_place (worker_of p) t 
 same_place p q t u small low =
     ⊎_elim
     (λ same. ⊎_elim
-        (λ equal. eq-eqb (tag_place (worker_of p) t) (tag_place (worker_of q) u) (omega (arith, same, equal)) ∙ sym (and_from (q == p) (u == t) (eq-eqb q p same) (eq-eqb u t equal)))
-        (λ apart. ne_eqb (tag_place (worker_of p) t) (tag_place (worker_of q) u) (λ e. apart (omega (arith, same, e))) ∙ sym (and_right (q == p) (u == t) (ne_eqb u t apart)))
-        (cases_eq u t))
+    (λ equal. eq-eqb (tag_place (worker_of p) t) (tag_place (worker_of q) u) (omega (arith, same, equal)) ∙ sym (and_from (q == p) (u == t) (eq-eqb q p same) (eq-eqb u t equal)))
+    (λ apart. ne_eqb (tag_place (worker_of p) t) (tag_place (worker_of q) u) (λ e. apart (omega (arith, same, e))) ∙ sym (and_right (q == p) (u == t) (ne_eqb u t apart)))
+    (cases_eq u t))
     (λ other. ne_eqb (tag_place (worker_of p) t) (tag_place (worker_of q) u) (λ e. other (omega (arith, e, small, low))) ∙ sym (and_left (q == p) (u == t) (ne_eqb q p other)))
     (cases_eq q p)
 
@@ -168,7 +167,7 @@ module _ (m : RecordMap) (workers pass tag : ℕ) (small : tag < 8) (within : pa
   entry_next names e right range =
       ⊎_elim
       (λ left. stays_next e.0 e.1.command e.1.reply (map_next m e).tags (ap (λ (n : RecordMap). n.tags) left.map)
-          (λ number. undone_next tag was (record { number = number; command = e.1.command; reply = e.1.reply }) (ap is_done left.reply)) e.1.number)
+      (λ number. undone_next tag was (record { number = number; command = e.1.command; reply = e.1.reply }) (ap is_done left.reply)) e.1.number)
       (λ on. ap (λ (n : RecordMap). is_some (get_or n.tags tag_at None)) on.map ∙ step_next e.0 e.1.command e.1.reply range.pass range.tagged on.reply e.1.number)
       (right_is m e right)
 

@@ -1,5 +1,5 @@
 -- The replies of `one` are those of a legal history, which is shared by the workers of the lines.
-use Rattle.std.proofs.Common.{◌≡◌, ◌≢◌, ◌⊎◌, ◌↔◌, ◌==◌, ◌+◌, ◌-◌, ◌<◌, ◌++◌, ℕ, suc, Bool, true, false, cond, List, [], ◌∷◌, All, length, map, filter, Option, Some, None, is_some, refl, sym, ap, ap₂, ◌∙◌, subst, ⊎_elim, inl, inr, add-zero, arith}
+use Rattle.std.proofs.Common.{◌≡◌, ◌≢◌, ◌↔◌, ◌==◌, ◌+◌, ◌-◌, ◌<◌, ◌++◌, ℕ, suc, Bool, true, false, List, [], ◌∷◌, All, length, map, filter, Option, Some, None, is_some, refl, sym, ap, ap₂, ◌∙◌, subst, ⊎_elim, inl, inr, add-zero, arith}
 use Rattle.std.specs.Bool.{then_some}
 use Rattle.std.specs.Option.{option_map_or}
 use Rattle.std.proofs.lemmas.Bool.{and_parts, cases_Bool, cases_eq, eq-eqb, ne_eqb, cond_both, cond-true, cond-false}
@@ -17,7 +17,7 @@ use Rattle.kmem_model.specs.Heap.{address_in}
 use Rattle.kmem_model.specs.Records.{RecordMap, id_of, held_at, name_count, least_name, tag_place, is_live}
 use Rattle.kmem_model.specs.RecordStep.{Step, put_step, get_step, del_step, at_step, link_step, hold_step, read_step, write_step, drop_step, fix_step, step}
 use Rattle.kmem_model.specs.declared.record_entry.RecordEntry.{RecordEntry}
-use Rattle.kmem_model.specs.History.{worker_of, is_refusal, map_next, map_after, is_put_of_absent, is_full_due, IsRight, IsLegalHistory, commands_of, numbered, asked_by, IsShared, replies_of, IsFullExactly}
+use Rattle.kmem_model.specs.History.{worker_of, is_refusal, map_next, map_after, is_put_of_absent, is_full_due, IsRight, IsLegalHistory, commands_of, numbered, asked_by, replies_of, IsFullExactly}
 use Rattle.kmem_model.specs.One.{OneState, OneStep, buffers_of, entered_by, address_for, cache_with, cache_without, placed_step, has_no_room, is_refused, one_step}
 use Rattle.kmem_model.specs.OneRun.{OneRun, stage_of, run_after, settled_run, is_settle_due, line_run, replies, history_of}
 use Rattle.kmem_model.specs.Settle.{Course}
@@ -191,9 +191,9 @@ entry_is s line number positive = ⊎_elim (λ yes. refused yes) (λ no. taken n
         record {
           right = inr (reply ∙ sym (ap (λ w. (step s.map w line.command).reply) worker));
           next =
-            cond-false (is_refusal (one_step s line.worker line.command).reply) s.map _ (ap is_refusal reply ∙ step_no_refusal s.map line.worker line.command)
-            ∙ (ap (λ w. (step s.map w line.command).map) worker
-            ∙ (sym same.map ∙ sym (ap (λ (made : OneStep). made.state.map) is)));
+              cond-false (is_refusal (one_step s line.worker line.command).reply) s.map _ (ap is_refusal reply ∙ step_no_refusal s.map line.worker line.command)
+              ∙ (ap (λ w. (step s.map w line.command).map) worker
+              ∙ (sym same.map ∙ sym (ap (λ (made : OneStep). made.state.map) is)));
         }
 
 -- a step leaves as many buffers
@@ -272,7 +272,7 @@ shared_on every number run before line lines pass positive_here further = ⊎_el
         let grown : length (commands_of (worker_of pass) (line ∷ [])) ≡ 1 = ap (λ (xs : List Line). length (map (λ (x : Line). x.command) xs)) (cond-true (line.worker == worker_of pass) _ _ one) in
         kept
         ∙ (ap₂ (λ n es. (n + 1, line.command) ∷ es) (ap (λ w. length (commands_of w before)) mine)
-            (further ∙ ap (λ n. numbered (n + 1) (commands_of (worker_of pass) lines)) (more ∙ ap (λ n. length (commands_of (worker_of pass) before) + n) grown))
+        (further ∙ ap (λ n. numbered (n + 1) (commands_of (worker_of pass) lines)) (more ∙ ap (λ n. length (commands_of (worker_of pass) before) + n) grown))
         ∙ sym (ap (numbered (length (commands_of (worker_of pass) before) + 1)) taken))
 
     of_other : line.worker ≢ worker_of pass → asked_by pass (entry_of ∷ rest) ≡ numbered (length (commands_of (worker_of pass) before) + 1) (commands_of (worker_of pass) (line ∷ lines))

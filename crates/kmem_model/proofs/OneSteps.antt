@@ -12,7 +12,6 @@ use Rattle.kmem_model.proofs.CacheLists.{get_or-map_default, get_or-replicate_no
 use Rattle.kmem_model.proofs.CacheSearch.{least_from_some}
 use Rattle.kmem_model.proofs.PlacesKept.{then_some_says}
 use Rattle.kmem_model.proofs.Legal.{entered_buffers_alloc, entered_buffers_free, placed_is, full_exactly}
-use Rattle.kmem_model.proofs.StepValid.{step_keeps, start_valid}
 use Rattle.kmem_model.proofs.StepTags.{looks_leave, tags_stay}
 use Rattle.kmem_model.proofs.RecordsValid.{is_the_some, some_within}
 use Rattle.kmem_model.proofs.SettleWhole.{enter_whole, opening_whole, opening_calm}
@@ -23,9 +22,9 @@ use Rattle.kmem_model.specs.CacheOrder.{is_the, wanted}
 use Rattle.kmem_model.specs.CacheEnter.{is_full, may_take, with_out, enter}
 use Rattle.kmem_model.specs.declared.cache_entry.CacheEntry.{CacheEntry}
 use Rattle.kmem_model.specs.declared.cache_entry.CacheEntry.TheVariants as entry
-use Rattle.kmem_model.specs.Records.{RecordMap, id_of, held_at, is_live, live_count, tag_place, no_records, IsValid}
-use Rattle.kmem_model.specs.RecordStep.{put_step, read_step, write_step, drop_step, step, only_looks, leaves_tags, IsInRange}
-use Rattle.kmem_model.specs.Heap.{least_left_in, Object, HeapState, StandsFor, hold_at, object_at, address_of, address_in, places_of, has_record, is_leftover}
+use Rattle.kmem_model.specs.Records.{RecordMap, id_of, held_at, is_live, tag_place, no_records}
+use Rattle.kmem_model.specs.RecordStep.{put_step, read_step, write_step, drop_step, step, only_looks, leaves_tags}
+use Rattle.kmem_model.specs.Heap.{least_left_in, Object, HeapState, StandsFor, hold_at, object_at, address_of, address_in, places_of, is_leftover}
 use Rattle.kmem_model.specs.History.{is_put_of_absent, is_full_due}
 use Rattle.kmem_model.specs.One.{OneState, OneStep, buffers_of, entered_by, least_leftover, address_for, cache_with, cache_without, placed_step, has_no_room, is_refused, one_step, one_start, one_workers, one_limit}
 use Rattle.kmem_model.specs.OneStands.{OneStands, OneEnds, leaves_objects, IsOnTag}

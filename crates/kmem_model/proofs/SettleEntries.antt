@@ -1,6 +1,9 @@
 -- The entries of a settle lead to where its course ends, and end just its moves.
-use Rattle.std.proofs.Common.{◌≡◌, ℕ, zero, suc, ◌+◌, ◌-◌, ◌^◌, ◌++◌, min, Bool, true, false, cond, List, [], ◌∷◌, length, map, count_by, Option, Some, None, option_map, option_and_then, append_assoc, ⊎_elim, sym, ◌∙◌, ap, ap₂, refl, subst, arith}
-use Rattle.std.specs.List.{flat_map}
+use Rattle.std.proofs.Common.{◌≡◌, ℕ, zero, suc, ◌+◌, ◌-◌, ◌^◌, ◌++◌, ◌&&◌, ◌||◌, ◌==◌, not, take_while, min, Bool, true, false, cond, List, [], ◌∷◌, length, map, count_by, Option, Some, None, option_map, option_and_then, append_assoc, ⊎_elim, sym, ◌∙◌, ap, ap₂, refl, subst, arith}
+use Rattle.std.specs.List.{list_all}
+use Rattle.std.proofs.lemmas.List.Elements.{filter-append}
+use Rattle.std.proofs.lemmas.List.Sums.{take_while-cons}
+use Rattle.kmem_model.specs.CacheScans.{is_scan, is_begin, is_idle_entry, scanning, ends_idle, is_round, has_rounds}
 use Rattle.std.specs.Bool.{then_some}
 use Rattle.std.specs.Option.{option_map_or}
 use Rattle.std.proofs.lemmas.Bool.{cases_Bool}
@@ -9,19 +12,17 @@ use Rattle.std.proofs.lemmas.Grind.{flat_map-append}
 use Rattle.kmem_model.proofs.CacheLists.{count-cons}
 use Rattle.kmem_model.proofs.PlacesKept.{and_then_says}
 use Rattle.kmem_model.proofs.SettleWhole.{enter_whole}
-use Rattle.kmem_model.proofs.SettleKept.{IsNext, IsMovedOn}
 use Rattle.kmem_model.proofs.SettleScan.{with_ended, moved_keeps, scan_whole, scan_from}
 use Rattle.kmem_model.proofs.SettleScanned.{IsScanned, scan_says, scan_ends}
 use Rattle.kmem_model.proofs.SettleEnds.{scanned_last, scanned_more, settled_from, forget_inside}
 use Rattle.kmem_model.specs.CacheState.{CacheState}
-use Rattle.kmem_model.specs.CacheOrder.{is_idle}
 use Rattle.kmem_model.specs.CacheEnter.{unmarked, scan_started, enter}
 use Rattle.kmem_model.specs.CacheHistory.{entered_all, Follows}
-use Rattle.kmem_model.specs.Settle.{Stage, EndedMove, Course, says_after, after_move, cache_after_move, moved_in, moved, scanned, is_done, with_scan, scanned_in, settled_in}
+use Rattle.kmem_model.specs.Settle.{Stage, EndedMove, Course, says_after, after_move, cache_after_move, scanned, is_done, with_scan, scanned_in}
 use Rattle.kmem_model.specs.SettleWhole.{IsWhole, IsWholeStage, enough}
 use Rattle.kmem_model.specs.SettleMeasure.{IsInSettle, settled}
 use Rattle.kmem_model.specs.SettleTurns.{with_cache, course_at}
-use Rattle.kmem_model.specs.SettleEntries.{move_entries, moves_entries, scan_made, scans_made, settle_entries, AreEntriesOf}
+use Rattle.kmem_model.specs.SettleEntries.{move_entries, moves_entries, scan_made, scans_made, AreEntriesOf}
 use Rattle.kmem_model.specs.Report.{is_yes, is_no, is_later, is_dont_need, is_dont_know, is_end_by, is_gone_entry, counted_in, ends_in}
 use Rattle.kmem_model.specs.declared.cache_entry.Said.{Said}
 use Rattle.kmem_model.specs.declared.cache_entry.CacheEntry.{CacheEntry}
@@ -77,7 +78,7 @@ moved_more_on start course move t so after =
 pub scan_follows : (stage : Stage) (scan : Course) → IsWholeStage stage → scanned stage ≡ Some scan → Follows stage.cache (scan_made scan) scan.stage.cache
 scan_follows stage scan whole e =
     let kept = moved_keeps (HasMoved start) (λ course move t old so next on. moved_more_on start course move t so on.after) (length started.asked + 1) start scan
-        (scan_whole stage started whole refl) (record { moves = []; more = refl; leads = refl }) (sym (scan_from stage started refl) ∙ e) in
+    (scan_whole stage started whole refl) (record { moves = []; more = refl; leads = refl }) (sym (scan_from stage started refl) ∙ e) in
     let so = kept.1 in
     subst (λ ms. Follows stage.cache (Scan true ∷ (moves_entries ms ++ Idle ∷ [])) scan.stage.cache) (sym so.more)
     (follows-append (moves_entries so.moves) (Idle ∷ []) started scan.stage.cache scan.stage.cache so.leads
@@ -107,12 +108,48 @@ scan_counts is scan of =
     let last : ◌≡◌ {A = ℕ} (cond (is Idle) 1 0) 0 = ap {B = ℕ} (λ b. cond b 1 0) of.idle in
     omega (arith, first, last, count-cons is (Scan true) (moves_entries scan.moves ++ Idle ∷ []), count-append is (moves_entries scan.moves) (Idle ∷ []), count-cons is Idle [])
 
+-- Rounds
+
+-- an entry that doesn't start a scan
+abbrev within_scan : CacheEntry → Bool
+within_scan e = not (is_scan e)
+
+-- what a scan makes after its start
+abbrev turns : List EndedMove → List CacheEntry
+turns moves = scanning (moves_entries moves ++ Idle ∷ [])
+
+turns_idle : (moves : List EndedMove) → ends_idle (turns moves) ≡ true
+turns_idle [] = refl
+turns_idle (move ∷ []) = refl
+turns_idle (move ∷ (next ∷ moves)) = turns_idle (next ∷ moves)
+
+turns_taken : (moves : List EndedMove) (rest : List CacheEntry) → take_while within_scan (turns moves ++ rest) ≡ turns moves ++ take_while within_scan rest
+turns_taken [] rest = take_while-cons within_scan Idle rest
+turns_taken (move ∷ moves) rest = take_while-cons within_scan (Begin 0 move.from move.to) (turns moves ++ rest) ∙ ap (λ es. Begin 0 move.from move.to ∷ es) (turns_taken moves rest)
+
+turns_skipped : (moves : List EndedMove) (rest : List CacheEntry) → has_rounds (turns moves ++ rest) ≡ has_rounds rest
+turns_skipped [] rest = refl
+turns_skipped (move ∷ moves) rest = turns_skipped moves rest
+
+-- a scan before others, which begin with a start
+scan_rounds : (scan : Course) (rest : List CacheEntry) → take_while within_scan (scanning rest) ≡ [] → has_rounds (scanning rest) ≡ true → has_rounds (scanning (scan_made scan ++ rest)) ≡ true
+scan_rounds scan rest anew rounds =
+    ap (λ es. has_rounds (Scan true ∷ es)) (filter-append (λ e. is_scan e || is_begin e || is_idle_entry e) (moves_entries scan.moves ++ Idle ∷ []) rest)
+    ∙ (ap (λ b. b && has_rounds (turns scan.moves ++ scanning rest)) round ∙ (turns_skipped scan.moves (scanning rest) ∙ rounds))
+  where
+    round : is_round (take_while within_scan (turns scan.moves ++ scanning rest)) ≡ true
+    round =
+        ap is_round (turns_taken scan.moves (scanning rest) ∙ (ap (λ es. turns scan.moves ++ es) anew ∙ append-nil (turns scan.moves)))
+        ∙ ap (λ b. b || (list_all is_begin (turns scan.moves) && length (turns scan.moves) == 64)) (turns_idle scan.moves)
+
 -- the scans from a course on, with their entries
 record HasScanned (n : ℕ) (course result : Course) : Type 0 where
   entries : List CacheEntry
   moves : List EndedMove
   made : scans_made n course.stage ≡ Some entries
   leads : Follows course.stage.cache entries result.stage.cache
+  anew : take_while within_scan (scanning entries) ≡ []
+  rounds : has_rounds (scanning entries) ≡ true
   more : result.moves ≡ course.moves ++ moves
   counts : (is : CacheEntry → Bool) → IsOfMoves is → count_by is entries ≡ count_by is (moves_entries moves)
 
@@ -138,6 +175,8 @@ has_scanned (suc n) course result inside h =
       moves = scan.moves;
       made = scans_turned n course.stage scan true e done;
       leads = leads;
+      anew = refl;
+      rounds = subst (λ es. has_rounds (scanning es) ≡ true) (append-nil (scan_made scan)) (scan_rounds scan [] refl refl);
       more = refl;
       counts = λ is of. scan_counts is scan of;
     }))
@@ -151,6 +190,8 @@ has_scanned (suc n) course result inside h =
           moves = scan.moves ++ rest.moves;
           made = scans_turned k from.stage scan false e more ∙ ap (option_map (λ es. scan_made scan ++ es)) rest.made;
           leads = follows-append (scan_made scan) rest.entries from.stage.cache scan.stage.cache to.stage.cache leads rest.leads;
+          anew = refl;
+          rounds = scan_rounds scan rest.entries rest.anew rest.rounds;
           more = rest.more ∙ append_assoc from.moves scan.moves rest.moves;
           counts = λ is of.
               count-append is (scan_made scan) rest.entries
@@ -167,6 +208,7 @@ settle_has stage course whole e =
       record {
         made = ap (option_map (λ es. Forget ∷ es)) so.made;
         follows = so.leads;
+        rounds = so.rounds;
         ends = ends_same so.entries so.moves course.moves so.more so.counts;
       },
     )
@@ -181,9 +223,9 @@ settle_has stage course whole e =
         ((is : CacheEntry → Bool) → IsOfMoves is → count_by is entries ≡ count_by is (moves_entries moves)) → ends_in (Forget ∷ entries) ≡ ends_in (moves_entries all)
     ends_same entries moves all same counts =
         let of : (is : CacheEntry → Bool) → IsOfMoves is → counted_in (Forget ∷ entries) is ≡ counted_in (moves_entries all) is = λ is only.
-            let first : ◌≡◌ {A = ℕ} (cond (is Forget) 1 0) 0 = ap {B = ℕ} (λ b. cond b 1 0) only.forget in
-            let here : count_by is (Forget ∷ entries) ≡ count_by is entries = omega (arith, first, count-cons is Forget entries) in
-            ap (λ n. min n (2 ^ 64 - 1)) (here ∙ (counts is only ∙ ap (λ ms. count_by is (moves_entries ms)) (sym same))) in
+        let first : ◌≡◌ {A = ℕ} (cond (is Forget) 1 0) 0 = ap {B = ℕ} (λ b. cond b 1 0) only.forget in
+        let here : count_by is (Forget ∷ entries) ≡ count_by is entries = omega (arith, first, count-cons is Forget entries) in
+        ap (λ n. min n (2 ^ 64 - 1)) (here ∙ (counts is only ∙ ap (λ ms. count_by is (moves_entries ms)) (sym same))) in
         let a = of (is_end_by is_yes) (record { scan = refl; idle = refl; forget = refl }) in
         let b = of (is_end_by is_no) (record { scan = refl; idle = refl; forget = refl }) in
         let c = of (is_end_by is_later) (record { scan = refl; idle = refl; forget = refl }) in

@@ -8,7 +8,7 @@ use Rattle.kmem_model.proofs.CacheSearch.{least_from_some}
 use Rattle.kmem_model.proofs.Legal.{placed_is}
 use Rattle.kmem_model.specs.Records.{RecordMap, tag_place, id_of, held_at, name_count, least_name}
 use Rattle.kmem_model.specs.RecordStep.{Step, put_step, get_step, del_step, at_step, link_step, hold_step, read_step, write_step, drop_step, fix_step, step}
-use Rattle.kmem_model.specs.One.{OneState, OneStep, buffers_of, one_step, is_refused}
+use Rattle.kmem_model.specs.One.{OneState, OneStep, one_step, is_refused}
 
 abbrev Within : RecordMap → Step → Type 0
 Within m next = IsReplyWithinNames (length m.names) next.reply

@@ -1,12 +1,12 @@
 -- The output of `one`: all lines of a script in the order of the file on one thread, with settles between them (this project's own rule).
-use Rattle.std.specs.Prelude.{ℕ, zero, suc, ◌+◌, ◌*◌, ◌-◌, ◌%◌, ◌^◌, ◌==◌, ◌&&◌, Bool, true, false, nat_lt, List, [], ◌∷◌, ◌++◌, length, map, count_by, min, Option, Some, None, if◌then◌else◌}
+use Rattle.std.specs.Prelude.{ℕ, zero, suc, ◌+◌, ◌-◌, ◌%◌, ◌==◌, ◌&&◌, Bool, false, nat_lt, List, [], ◌∷◌, ◌++◌, length, map, Option, Some, None, if◌then◌else◌}
 use Rattle.std.specs.List.{flat_map, range_with_len}
 use Rattle.std.specs.Option.{option_map_or}
 use Rattle.kmem_text.specs.declared.command.Line.{Line}
 use Rattle.kmem_text.specs.declared.command.Reply.{Reply}
 use Rattle.kmem_text.specs.Grammar.{Plain}
 use Rattle.kmem_text.specs.Replies.{reply_text}
-use Rattle.kmem_model.specs.CacheState.{is_out, slab_count, free_count}
+use Rattle.kmem_model.specs.CacheState.{is_out}
 use Rattle.kmem_model.specs.declared.cache_entry.CacheEntry.TheVariants.{Free}
 use Rattle.kmem_model.specs.declared.cache_entry.Said.{Said}
 use Rattle.kmem_model.specs.declared.cache_entry.Said.TheVariants.{Yes, No, Later, DontNeed, DontKnow}
@@ -88,11 +88,10 @@ lines_run every number run (line ∷ lines) = lines_run every (number + 1) (line
 -- the history of these commands and their replies, behind those of earlier lines: each worker's commands are numbered from 1
 abbrev pub history_of : Option ℕ → ℕ → OneRun → List Line → List Line → List (ℕ × RecordEntry)
 history_of every number run before [] = []
-history_of every number run before (line ∷ lines) =
-    (
-      line.worker - 1,
-      record { number = length (commands_of line.worker before) + 1; command = line.command; reply = (one_step run.state line.worker line.command).reply },
-    )
+history_of every number run before (line ∷ lines) = (
+  line.worker - 1,
+  record { number = length (commands_of line.worker before) + 1; command = line.command; reply = (one_step run.state line.worker line.command).reply },
+)
     ∷ history_of every (number + 1) (line_run every number run line) (before ++ line ∷ []) lines
 
 -- The end

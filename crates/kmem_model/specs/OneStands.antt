@@ -1,5 +1,5 @@
 -- When a heap of objects in a cache's buffers stands for what `one` keeps (this project's own).
-use Rattle.std.specs.Prelude.{ℕ, ◌≡◌, Bool, true, false, Option, is_some, length}
+use Rattle.std.specs.Prelude.{ℕ, ◌≡◌, Bool, true, false, is_some, length}
 use Rattle.kmem_text.specs.declared.command.Command.{Command}
 use Rattle.kmem_text.specs.declared.command.Command.TheVariants.{Put, Del, Read, Write, Drop}
 use Rattle.kmem_text.specs.declared.command.Tag.{Tag}

@@ -1,6 +1,6 @@
 -- What a client of a cache answers when it is asked to move an object, and what the answer does to its heap
 -- (the five answers are those of the theory statement of kmem.c, when each comes is this project's own).
-use Rattle.std.specs.Prelude.{ℕ, ◌≡◌, Bool, nat_lt, ◌==◌, List, Option, Some, None, is_some, is_none, length, map, slice_set, slice_index_or, if◌then◌else◌}
+use Rattle.std.specs.Prelude.{ℕ, ◌≡◌, Bool, nat_lt, ◌==◌, List, Option, Some, None, is_some, is_none, length, map, slice_index_or, if◌then◌else◌}
 use Rattle.kmem_model.specs.CacheState.{CacheState, is_out}
 use Rattle.kmem_model.specs.CacheOrder.{is_the}
 use Rattle.kmem_model.specs.Settle.{Stage, places_after}

@@ -2,6 +2,7 @@
 use Rattle.std.specs.Prelude.{ℕ, zero, suc, ◌≡◌, true, false, List, [], ◌∷◌, ◌++◌, Option, Some, None, option_map, option_and_then}
 use Rattle.std.specs.List.{flat_map}
 use Rattle.kmem_model.specs.CacheHistory.{Follows}
+use Rattle.kmem_model.specs.CacheScans.{scanning, has_rounds}
 use Rattle.kmem_model.specs.Settle.{Stage, EndedMove, Course, is_done, scanned, forgotten}
 use Rattle.kmem_model.specs.SettleWhole.{enough}
 use Rattle.kmem_model.specs.Report.{ends_in}
@@ -32,8 +33,10 @@ scans_made (suc n) stage =
 abbrev pub settle_entries : Stage → Option (List CacheEntry)
 settle_entries stage = option_and_then (λ course. option_map (λ es. Forget ∷ es) (scans_made (enough stage) course.stage)) (forgotten stage)
 
--- these are the entries of the settle that takes this course: they lead to where it ends, and end just its moves
+-- these are the entries of the settle that takes this course: they lead to where it ends, each scan goes on until there is no move to begin,
+-- and they end just its moves
 pub record AreEntriesOf (stage : Stage) (course : Course) (entries : List CacheEntry) : Type 0 where
   pub made : settle_entries stage ≡ Some entries
   pub follows : Follows stage.cache entries course.stage.cache
+  pub rounds : has_rounds (scanning entries) ≡ true
   pub ends : ends_in entries ≡ ends_in (moves_entries course.moves)

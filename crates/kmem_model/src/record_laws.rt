@@ -34,7 +34,7 @@ pub fn law_one()
         0 < line.worker →
         ((one_step run.state line.worker line.command).reply ≡ Full) ↔ (is_full_due capacity run.state.map line.command ≡ true) →
         IsFullExactly capacity (line_run every number run line).state.map
-            (history_of every (number + 1) (line_run every number run line) (before ++ line ∷ []) lines) →
+        (history_of every (number + 1) (line_run every number run line) (before ++ line ∷ []) lines) →
         IsFullExactly capacity run.state.map (history_of every number run before (line ∷ lines)) }
     ensures buffers { (every : Option ℕ) (number : ℕ) (run : OneRun) (line : Line) →
         buffers_of (line_run every number run line).state.cache ≡ buffers_of run.state.cache }

@@ -1,7 +1,7 @@
 use Rattle.std.proofs.Common.{⊎_elim, ◌*◌}
 use Rattle.std.proofs.lemmas.Bool.{both_ways}
 use Rattle.std.proofs.lemmas.List.{length-replicate}
-use Rattle.std.proofs.Common.{Option, None, ◌∙◌, ap, sym, subst, false, ◌≡◌, true}
+use Rattle.std.proofs.Common.{None, ◌∙◌, ap}
 use Rattle.kmem_model.specs.Records.{no_records, tag_place}
 use Rattle.kmem_model.specs.History.{worker_of, in_use, own_entries}
 use Rattle.kmem_model.proofs.HistoryTags.{in_use_from, taken_from, held_from, fixed_from, none_held, none_fixed}
