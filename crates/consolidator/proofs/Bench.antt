@@ -26,10 +26,10 @@ ok_err r a e h k = absurd (cc)
 
 -- the map has the names and tags of the heap
 pub names_are : (cache : CacheView) (heap : HeapView) (b : IsSetUp cache heap) → length b.state.map.names ≡ 48
-names_are cache heap b = sym (length-map b.state.map.names _) ∙ (ap length (sym b.stands.stands.names) ∙ b.names)
+names_are cache heap b = sym (length-map b.state.map.names _) ∙ (ap length (sym b.stands.stands.paired.names) ∙ b.names)
 
 pub tags_are : (cache : CacheView) (heap : HeapView) (b : IsSetUp cache heap) → length b.state.map.tags ≡ 128
-tags_are cache heap b = sym (length-map b.state.map.tags _) ∙ (ap length (sym b.stands.stands.tags) ∙ b.tags)
+tags_are cache heap b = sym (length-map b.state.map.tags _) ∙ (ap length (sym b.stands.stands.paired.tags) ∙ b.tags)
 
 pub put_in_range : (cache : CacheView) (heap : HeapView) (b : IsSetUp cache heap) (name : ℕ) (value : List ℕ) → name < 48 → IsInRange b.state.map 1 (Put (record { 0 = name }) value)
 put_in_range cache heap b name value lt =

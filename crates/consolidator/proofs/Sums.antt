@@ -3,7 +3,7 @@ use Rattle.std.proofs.Common.{◌≡◌, ℕ, ◌+◌, ◌-◌, ◌^◌, ◌≤�
 use Rattle.std.specs.List.{sum_by}
 use Rattle.std.proofs.lemmas.List.Sums.{sum_by-cons}
 use Rattle.kmem_model.specs.Settle.{EndedMove}
-use Rattle.kmem_model.specs.OneRun.{is_yes, is_no, is_later, is_dont_need, is_dont_know}
+use Rattle.kmem_model.specs.Report.{is_yes, is_no, is_later, is_dont_need, is_dont_know}
 use Rattle.kmem_model.specs.declared.cache_entry.Said.{Said}
 use Rattle.kmem_model.specs.declared.cache_entry.Said.TheVariants.{Yes, No, Later, DontNeed, DontKnow}
 use Rattle.object_cache.specs.declared.tally.Tally.{Tally}

@@ -4,33 +4,22 @@ use Rattle.std.specs.List.{list_any}
 use Rattle.std.specs.Bool.{then_some}
 use Rattle.std.specs.Option.{IsSome}
 use Rattle.std.proofs.lemmas.List.Folds.{list_any-append}
-use Rattle.kmem_buf.specs.declared.client.Verdict.{Verdict}
-use Rattle.kmem_buf.specs.declared.client.Verdict.TheVariants as verdict
 use Rattle.kmem_model.specs.CacheState.{CacheState}
 use Rattle.kmem_model.specs.CacheEnter.{enter}
 use Rattle.kmem_model.specs.declared.cache_entry.CacheEntry.TheVariants.{End}
 use Rattle.kmem_model.specs.declared.cache_entry.Said.{Said}
-use Rattle.kmem_model.specs.Records.{RecordMap, IsValid}
+use Rattle.kmem_model.specs.Records.{RecordMap}
 use Rattle.kmem_model.specs.Heap.{HeapState, StandsFor}
 use Rattle.kmem_model.specs.Says.{answer_about, says, addresses_after, heap_after, stage_in}
 use Rattle.kmem_model.specs.Settle.{Stage, EndedMove, Course, said_at, says_after, gains, moved, is_done, is_rest_marked}
 use Rattle.kmem_model.specs.SettleWhole.{IsWholeStage}
 use Rattle.kmem_model.specs.SettleTurns.{course_moved, IsMoveOn}
 use Rattle.kmem_model.specs.OneRun.{addresses_moved}
-use Rattle.object_cache.specs.Modes.{said_of}
 use Rattle.object_cache.specs.declared.tally.Tally.{Tally}
-use Rattle.record_heap.specs.Answers as heap
 use Rattle.record_heap.specs.View.{HeapView, IsFrame}
 use Rattle.consolidator.specs.Tallies.{counted, counted_all, tally_of}
-use Rattle.consolidator.specs.Settles.{HeapMoves, ScansTo, IsOnScan}
-
--- the two names of an answer agree
-pub same_said : (v : Verdict) → heap.said_of v ≡ said_of v
-same_said verdict.Yes = refl
-same_said verdict.No = refl
-same_said verdict.Later = refl
-same_said verdict.DontNeed = refl
-same_said verdict.DontKnow = refl
+use Rattle.consolidator.specs.Settles.{HeapMoves, ScansTo}
+use Rattle.consolidator.proofs.Within.{IsOnScan}
 
 -- Lists of moves
 
@@ -51,19 +40,19 @@ frame_on : (a b c : HeapView) → IsFrame a b → IsFrame b c → IsFrame a c
 frame_on a b c f g = record { home = g.home ∙ f.home; holds = g.holds ∙ f.holds; names = g.names ∙ f.names; tags = g.tags ∙ f.tags; objects = g.objects ∙ f.objects }
 
 pub heap_still : (h : HeapView) → HeapMoves h [] h
-heap_still h = record { stands = λ m addresses valid stands. stands; frame = record { home = refl; holds = refl; names = refl; tags = refl; objects = refl } }
+heap_still h = record { stands = λ m addresses stands. stands; frame = record { home = refl; holds = refl; names = refl; tags = refl; objects = refl } }
 
 pub heap_on : (a b c : HeapView) (xs ys : List EndedMove) → HeapMoves a xs b → HeapMoves b ys c → HeapMoves a (xs ++ ys) c
 heap_on a b c xs ys f g =
     record {
-      stands = λ m addresses valid stands. subst (λ at. StandsFor m at c.heap) (sym (moved_more addresses xs ys)) (g.stands m (addresses_moved addresses xs) valid (f.stands m addresses valid stands));
+      stands = λ m addresses stands. subst (λ at. StandsFor m at c.heap) (sym (moved_more addresses xs ys)) (g.stands m (addresses_moved addresses xs) (f.stands m addresses stands));
       frame = frame_on a b c f.frame g.frame;
     }
 
 -- what the heap does where it answers about an old buffer, and is offered a new one
 pub record IsAnswered (old new : HeapView) (from to : ℕ) : Type 0 where
   pub heap : new.heap ≡ heap_after old.heap from to (says old.heap true from)
-  pub stands : (m : RecordMap) (addresses : List ℕ) → IsValid m → StandsFor m addresses old.heap → StandsFor m (addresses_after addresses from to (says old.heap true from)) new.heap
+  pub stands : (m : RecordMap) (addresses : List ℕ) → StandsFor m addresses old.heap → StandsFor m (addresses_after addresses from to (says old.heap true from)) new.heap
   pub frame : IsFrame old new
 
 pub answered_at : (old new : HeapView) (a b from to : ℕ) → IsAnswered old new a b → a ≡ from → b ≡ to → IsAnswered old new from to
@@ -73,7 +62,7 @@ pub one_move : (old new : HeapView) (from to : ℕ) (said : Said) → IsAnswered
     HeapMoves old (record { from = from; to = to; said = said } ∷ []) new
 one_move old new from to said h e =
     record {
-      stands = λ m addresses valid stands. subst (λ a. StandsFor m (addresses_after addresses from to a) new.heap) e (h.stands m addresses valid stands);
+      stands = λ m addresses stands. subst (λ a. StandsFor m (addresses_after addresses from to a) new.heap) e (h.stands m addresses stands);
       frame = h.frame;
     }
 
@@ -99,14 +88,14 @@ ends_same s t u i j a b e st ij ab =
     (subst (λ (x : ℕ). enter s (End x b) ≡ Some u) ij (subst (λ (x : Said). enter s (End i x) ≡ Some u) ab e))
 
 pub on_scan_more : (old now : CacheState) (heap now_heap new_heap : HeapView) (tally now_tally : Tally) (gained : Bool) (on : IsOnScan old now heap now_heap tally now_tally gained) (from to : ℕ) (ended : CacheState) (said : Said) →
-    said_at (stage_in now now_heap.heap) from ≡ said →
-    IsMoveOn (record { stage = stage_in now now_heap.heap; moves = on.moves }) (course_moved (record { stage = stage_in now now_heap.heap; moves = on.moves }) from to ended) →
+    said_at (stage_in now now_heap.heap.objects) from ≡ said →
+    IsMoveOn (record { stage = stage_in now now_heap.heap.objects; moves = on.moves }) (course_moved (record { stage = stage_in now now_heap.heap.objects; moves = on.moves }) from to ended) →
     map answer_about new_heap.heap.objects ≡ says_after said from to (map answer_about now_heap.heap.objects) →
     HeapMoves now_heap (record { from = from; to = to; said = said } ∷ []) new_heap →
     IsOnScan old ended heap new_heap tally (counted now_tally said) (gained || gains said)
 on_scan_more old now heap now_heap new_heap tally now_tally gained on from to ended said is next same goes =
     let moves = on.moves ++ record { from = from; to = to; said = said } ∷ [] in
-    let stage : (course_moved (record { stage = stage_in now now_heap.heap; moves = on.moves }) from to ended) ≡ record { stage = stage_in ended new_heap.heap; moves = moves } =
+    let stage : (course_moved (record { stage = stage_in now now_heap.heap.objects; moves = on.moves }) from to ended) ≡ record { stage = stage_in ended new_heap.heap.objects; moves = moves } =
     ap (λ s. record { stage = record { cache = ended; says = says_after s from to (map answer_about now_heap.heap.objects) }; moves = on.moves ++ record { from = from; to = to; said = s } ∷ [] }) is
     ∙ ap (λ (says : List Said). record { stage = record { cache = ended; says = says }; moves = moves }) (sym same) in
     record {
@@ -121,7 +110,7 @@ on_scan_more old now heap now_heap new_heap tally now_tally gained on from to en
     }
 
 pub scans_to : (old now : CacheState) (heap now_heap : HeapView) (tally now_tally : Tally) (gained : Bool) (on : IsOnScan old now heap now_heap tally now_tally gained) →
-    moved (record { stage = stage_in now now_heap.heap; moves = on.moves }) ≡ Some (record { stage = stage_in now now_heap.heap; moves = on.moves }) →
+    moved (record { stage = stage_in now now_heap.heap.objects; moves = on.moves }) ≡ Some (record { stage = stage_in now now_heap.heap.objects; moves = on.moves }) →
     ScansTo old now heap now_heap tally now_tally gained
 scans_to old now heap now_heap tally now_tally gained on stops =
     record { moves = on.moves; scan = sym on.same ∙ stops; flag = on.flag; counts = on.counts; heap_moves = on.heap_moves }

@@ -5,13 +5,13 @@ ghost use Rattle.kmem_model.specs.CacheState.{has_pending};
 ghost use Rattle.kmem_model.specs.Says.{stage_in, AreInBuffers};
 ghost use Rattle.kmem_model.specs.Settle.{gains};
 ghost use Rattle.kmem_model.specs.SettleWhole.{IsWhole, IsWholeStage, IsSettled};
-ghost use Rattle.object_cache.specs.Modes.{said_of};
+ghost use Rattle.kmem_answers.specs.Words.{said_of};
 ghost use Rattle.consolidator.specs.Settles.{ScansTo, SettlesTo};
 
 use crate::marks::is_rest_marked;
 use crate::tally::{count, no_moves};
 use kmem_buf::Verdict;
-use kmem_model::{law_moves, law_scans, law_settle, law_stage};
+use kmem_model::{law_moves, law_scans, law_settle, law_settle_entries, law_stage};
 use object_cache::{ObjectCache, Tally};
 use record_heap::{RecordHeap, RecordKind};
 
@@ -21,20 +21,21 @@ use record_heap::{RecordHeap, RecordKind};
 pub fn settle(cache: &mut ObjectCache<RecordKind>, heap: &mut RecordHeap) -> Tally
     requires whole { IsWhole cache.old.state }
     requires calm { has_pending cache.old.state ≡ false }
-    requires buffers { AreInBuffers cache.old.state heap.old.heap }
+    requires buffers { AreInBuffers cache.old.state heap.old.heap.objects }
     requires home { heap.old.home ≡ cache.old.home }
 
     // The course that the cache and the heap take, by its moves; the heap stands for the same map.
     ensures settles { SettlesTo cache.old cache.new heap.old heap.new result }
     // What it leaves.
-    ensures settled { IsSettled (stage_in cache.new.state heap.new.heap) }
+    ensures settled { IsSettled (stage_in cache.new.state heap.new.heap.objects) }
     ensures whole { IsWhole cache.new.state × (has_pending cache.new.state ≡ false) }
-    ensures buffers { AreInBuffers cache.new.state heap.new.heap }
+    ensures buffers { AreInBuffers cache.new.state heap.new.heap.objects }
     ensures home { cache.new.home ≡ cache.old.home }
 {
     law_stage();
     law_scans();
     law_settle();
+    law_settle_entries();
     let mut tally = no_moves();
     cache.forget();
     'scans: loop {
@@ -48,7 +49,7 @@ pub fn settle(cache: &mut ObjectCache<RecordKind>, heap: &mut RecordHeap) -> Tal
 
 // Makes a desperate scan to its end, and answers whether it freed an old buffer.
 fn scan(cache: &mut ObjectCache<RecordKind>, heap: &mut RecordHeap, tally: &mut Tally) -> bool
-    requires whole { IsWholeStage (stage_in cache.old.state heap.old.heap) }
+    requires whole { IsWholeStage (stage_in cache.old.state heap.old.heap.objects) }
     requires home { heap.old.home ≡ cache.old.home }
     ensures scan { ScansTo cache.old.state cache.new.state heap.old heap.new tally.old tally.new result }
     ensures home { cache.new.home ≡ cache.old.home }

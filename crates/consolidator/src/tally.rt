@@ -1,7 +1,7 @@
 //! Counting moves by how they ended.
 
 ghost use Rattle.std.specs.Prelude.{◌≡◌, []};
-ghost use Rattle.object_cache.specs.Modes.{said_of};
+ghost use Rattle.kmem_answers.specs.Words.{said_of};
 ghost use Rattle.consolidator.specs.Tallies.{counted, tally_of, tally_sum};
 
 use kmem_buf::Verdict;

@@ -26,7 +26,8 @@ impl Model for MemSource {
 
     ghost Value = { Reading };
 
-    ghost view = { λ s. record { left = drop s.at s.bytes.items; step = s.step; fail_at = s.fail_at.items; calls = s.calls; faults = s.faults } };
+    ghost view = { λ s.
+        record { left = drop s.at s.bytes.items; step = s.step; fail_at = s.fail_at.items; calls = s.calls; faults = s.faults } };
 
     ghost invariant = { λ s. (s.at ≤ vec_len s.bytes) × (1 ≤ s.step) };
 }
@@ -107,7 +108,8 @@ impl Model for MemSink {
 
     ghost Value = { Writing };
 
-    ghost view = { λ s. record { written = s.bytes.items; room = s.room; step = s.step; fail_at = s.fail_at.items; calls = s.calls; faults = s.faults } };
+    ghost view = { λ s.
+        record { written = s.bytes.items; room = s.room; step = s.step; fail_at = s.fail_at.items; calls = s.calls; faults = s.faults } };
 
     ghost invariant = { λ s. (vec_len s.bytes ≤ s.room) × (s.room ≤ vec_capacity s.bytes) × (1 ≤ s.step) };
 }

@@ -1,3 +1,5 @@
+ghost use Rattle.std.specs.Prelude.{◌≤◌, IfOk};
+
 use crate::{
     Failed, MemSink, MemSource, ReadAllError, Sink, Source, StdSink, StdSource, read_all, write_all,
 };
@@ -29,6 +31,88 @@ impl Write for Broken {
     fn flush(&mut self) -> io::Result<()> {
         Ok(())
     }
+}
+
+/// A stream over three bytes, each of which is moved by a call of its own that a signal interrupts first.
+#[derive(Drop)]
+struct Slow {
+    left: u8,
+    interrupts: bool,
+}
+
+impl Slow {
+    fn steps(&mut self, room: usize) -> io::Result<usize>
+        ensures { IfOk result (λ n. n ≤ room) }
+    {
+        self.interrupts = !self.interrupts;
+        if !self.interrupts {
+            return Err(io::Error::from(io::ErrorKind::Interrupted));
+        }
+        if self.left == 0 || room == 0 {
+            return Ok(0);
+        }
+        self.left -= 1;
+        Ok(1)
+    }
+}
+
+impl Read for Slow {
+    fn read(&mut self, buffer: &mut [u8]) -> io::Result<usize> {
+        self.steps(buffer.len())
+    }
+}
+
+impl Write for Slow {
+    fn write(&mut self, piece: &[u8]) -> io::Result<usize> {
+        self.steps(piece.len())
+    }
+
+    fn flush(&mut self) -> io::Result<()> {
+        Ok(())
+    }
+}
+
+#[test]
+fn an_interrupted_call_is_tried_again(rt: HostRuntime) -> Result<(), Fail> {
+    let mut source = StdSource::create(Slow {
+        left: 3,
+        interrupts: true,
+    });
+    let Ok(bytes) = read_all(rt.alloc(), &mut source, 3) else {
+        return Err(Fail::from("three bytes are within the limit"));
+    };
+    assert_eq!(rt; bytes.len(), 3);
+    assert_eq!(rt; source.faults, 0);
+
+    let mut sink = StdSink::create(Slow {
+        left: 3,
+        interrupts: true,
+    });
+    assert_eq!(rt; sink.write(b"abc"), Ok(1));
+    assert_eq!(rt; write_all(&mut sink, b"bc"), Ok(()));
+    assert_eq!(rt; sink.faults, 0);
+    assert_eq!(rt; sink.write(b"d"), Err(Failed));
+    assert_eq!(rt; sink.faults, 1);
+    Ok(())
+}
+
+#[test]
+fn sixteen_mebibytes(rt: HostRuntime) -> Result<(), Fail> {
+    let limit = 16_777_216;
+    let mut whole = StdSource::create(io::repeat(b'#').take(16_777_216));
+    let Ok(bytes) = read_all(rt.alloc(), &mut whole, limit) else {
+        return Err(Fail::from("sixteen mebibytes are within the limit"));
+    };
+    assert_eq!(rt; bytes.len(), limit);
+
+    let mut longer = StdSource::create(io::repeat(b'#').take(16_777_217));
+    assert!(rt;
+        matches!(
+            read_all(rt.alloc(), &mut longer, limit),
+            Err(ReadAllError::TooLong)
+        )
+    );
+    Ok(())
 }
 
 #[test]

@@ -15,6 +15,26 @@ pub enum ReadAllError {
     NoMemory,
 }
 
+impl From<Failed> for ReadAllError {
+    ghost use Rattle.kmem_io.specs.declared.whole.ReadAllError.TheVariants.{Read};
+
+    ghost from_gives = { λ _ e. e ≡ Read };
+
+    fn from(_e: Failed) -> ReadAllError {
+        ReadAllError::Read
+    }
+}
+
+impl From<AllocError> for ReadAllError {
+    ghost use Rattle.kmem_io.specs.declared.whole.ReadAllError.TheVariants.{NoMemory};
+
+    ghost from_gives = { λ _ e. e ≡ NoMemory };
+
+    fn from(_e: AllocError) -> ReadAllError {
+        ReadAllError::NoMemory
+    }
+}
+
 /// Reads to the end of input, of which `limit` bytes at most are taken. Linear in the input.
 pub fn read_all<R: Source>(
     alloc: Global,
@@ -35,19 +55,14 @@ pub fn read_all<R: Source>(
     let mut bytes = Vec::new(alloc);
     let mut chunk = [0u8; 4096];
     'reading: loop {
-        let n = match input.read(&mut chunk) {
-            Ok(n) => n,
-            Err(Failed) => return Err(ReadAllError::Read),
-        };
+        let n = input.read(&mut chunk)?;
         if n == 0 {
             return Ok(bytes);
         }
         if n > limit - bytes.len() {
             return Err(ReadAllError::TooLong);
         }
-        if bytes.extend_from_slice(&chunk[..n]).is_err() {
-            return Err(ReadAllError::NoMemory);
-        }
+        bytes.extend_from_slice(&chunk[..n])?;
     }
 }
 

@@ -8,7 +8,7 @@ use Rattle.std.proofs.lemmas.Nat.{mod_below}
 use Rattle.kmem_model.proofs.CacheLists.{count-set, count_from_none}
 use Rattle.kmem_model.proofs.PlacesKept.{then_some_says, and_then_says}
 use Rattle.kmem_model.proofs.CacheChoices.{map_says}
-use Rattle.kmem_model.specs.CacheState.{SlabState, CacheState, is_same_standing, no_slab, slab_at, slab_in_source, is_out, move_at, has_pending, opening}
+use Rattle.kmem_model.specs.CacheState.{sizes_of, SlabState, CacheState, is_same_standing, no_slab, slab_at, slab_in_source, is_out, move_at, has_pending, opening}
 use Rattle.kmem_model.specs.CacheOrder.{is_the}
 use Rattle.kmem_model.specs.CacheEnter.{unmarked, slab_taken, slab_freed, slab_given_back, slab_answered, on_slab_of, with_out, emptied_goes, freed, all_freed, handed_back, without_move, with_answer, scan_started, gone, ended, enter}
 use Rattle.kmem_model.specs.CacheHistory.{state_after}
@@ -218,7 +218,7 @@ history_kept (x ∷ xs) s t e kept =
     let (n, e1, e2) = and_then_says (λ next. state_after next xs) (enter s x.1) t e in
     history_kept xs n t e2 (enter_kept s n x.1 e1 kept)
 
-pub opening_kept : (slabs chunks limit : ℕ) → 0 < chunks → IsKeptState (opening slabs chunks limit)
+pub opening_kept : (slabs chunks limit : ℕ) → 0 < chunks → IsKeptState (opening (sizes_of slabs chunks limit))
 opening_kept slabs chunks limit some =
     record {
       positive = some;

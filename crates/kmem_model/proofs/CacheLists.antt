@@ -147,3 +147,7 @@ read_after_write (z ∷ xs) zero (suc j) x y e = inr ((λ same. omega (arith, sa
 read_after_write (z ∷ xs) (suc i) zero x y e = inr ((λ same. omega (arith, same)), e)
 read_after_write (z ∷ xs) (suc i) (suc j) x y e =
     ⊎_elim (λ h. inl (ap suc h.0, h.1)) (λ h. inr ((λ same. h.0 (omega (arith, same))), h.1)) (read_after_write xs i j x y e)
+
+-- where none passes, a read fails
+pub passes_none : {X : Type 0} (p : X → Bool) (xs : List X) (i : ℕ) {d : X} → p d ≡ false → count_by p xs ≡ 0 → p (get_or xs i d) ≡ false
+passes_none p xs i {d} fails none = ⊎_elim (λ below. none_from_count p xs none i d below) (λ past. ap p (get_or_past xs i d past) ∙ fails) (cases_lt i (length xs))

@@ -10,10 +10,10 @@ use Rattle.kmem_model.proofs.CacheSearch.{least_from_some, fails_from_none, fore
 use Rattle.kmem_model.proofs.CacheRanks.{comes_before-order}
 use Rattle.kmem_model.proofs.CacheChoices.{map_says, is_the_says, same_standing_says, IsOnPartial, partial_within, first_partial_free_says, last_reclaimable_says}
 use Rattle.kmem_model.proofs.CacheKept.{FitsCount, IsKeptSlab, IsKeptState, history_kept, opening_kept}
-use Rattle.kmem_model.specs.CacheState.{SlabState, CacheState, is_same_standing, is_in_source, is_listed, is_dead, no_slab, slab_at, used, is_out_on, move_at, pending_count, opening}
+use Rattle.kmem_model.specs.CacheState.{sizes_of, SlabState, CacheState, is_same_standing, is_in_source, is_listed, is_dead, no_slab, slab_at, used, is_out_on, move_at, pending_count, opening}
 use Rattle.kmem_model.specs.CacheOrder.{least_below, IsLeastBelow, IsForemost, is_the, is_partial, comes_before, first_partial, least_free, first_partial_free, first_of_slab, wanted, is_left_out, chosen, free_number, is_at_limit, is_off, is_idle}
 use Rattle.kmem_model.specs.CacheEnter.{with_out, with_move, may_take, is_full, may_begin}
-use Rattle.kmem_model.specs.CacheHistory.{Reaches, IsLegal, MayAlloc, MayBegin, AtMostOneBegin, ExactlyOne}
+use Rattle.kmem_model.specs.CacheHistory.{Reaches, MayEnter, MayAlloc, MayBegin, AtMostOneBegin, ExactlyOne}
 use Rattle.kmem_model.specs.declared.cache_state.Standing.{Standing}
 use Rattle.kmem_model.specs.declared.cache_state.Standing.TheVariants.{Source, Listed, Dead}
 use Rattle.kmem_model.specs.declared.cache_state.PendingMove.{PendingMove}
@@ -191,7 +191,7 @@ module _ (s : CacheState) (kept : IsKeptState s) where
           (by_standing (slab_at s.slabs i) (slab_at s.slabs i).standing refl (none_first is_in_source others.0 i below)
           (none_first is_dead others.1 i below) (kept_at i below).fits (not_partial i))
 
-  pub alloc_or_full : ExactlyOne (MayAlloc s) (IsLegal s Full)
+  pub alloc_or_full : ExactlyOne (MayAlloc s) (MayEnter s Full)
   alloc_or_full =
       record {
         one =
@@ -203,14 +203,14 @@ module _ (s : CacheState) (kept : IsKeptState s) where
       }
 
 pub alloc_or_full_law : (slabs chunks limit : ℕ) (history : List (ℕ × CacheEntry)) (s : CacheState) → 0 < chunks →
-    Reaches slabs chunks limit history s → ExactlyOne (MayAlloc s) (IsLegal s Full)
+    Reaches (sizes_of slabs chunks limit) history s → ExactlyOne (MayAlloc s) (MayEnter s Full)
 alloc_or_full_law slabs chunks limit history s some reaches =
-    alloc_or_full s (history_kept history (opening slabs chunks limit) s reaches (opening_kept slabs chunks limit some))
+    alloc_or_full s (history_kept history (opening (sizes_of slabs chunks limit)) s reaches (opening_kept slabs chunks limit some))
 
 -- Begin or Idle
 
 module _ (s : CacheState) where
-  begin_says : (j from to : ℕ) → IsLegal s (Begin j from to) →
+  begin_says : (j from to : ℕ) → MayEnter s (Begin j from to) →
       (is_idle s ≡ false) × (free_number s ≡ Some j) × (chosen s ≡ Some from) × (first_partial_free s.chunks s.slabs ≡ Some to)
   begin_says j from to legal = (
     not-true (is_idle s) (and_parts _ _ more.0).0,
@@ -263,7 +263,7 @@ module _ (s : CacheState) where
       (λ none. absurd (both_ways (is_none (chosen s)) parts.1 (ap is_none none)))
       (option_cases (chosen s))
 
-  pub begin_or_idle : ExactlyOne (MayBegin s) (IsLegal s Idle)
+  pub begin_or_idle : ExactlyOne (MayBegin s) (MayEnter s Idle)
   begin_or_idle =
       record {
         one =

@@ -29,4 +29,7 @@ pub mod SettleEnds
 pub mod SettleFewest
 pub mod SettleSizes
 pub mod OneSettles
+pub mod HistoryTags
+pub mod CacheCounts
+pub mod SettleEntries
 pub mod SettleMarks

@@ -12,7 +12,7 @@ use Rattle.kmem_model.specs.CacheOrder.{is_the}
 use Rattle.kmem_model.specs.declared.cache_entry.Said.{Said}
 use Rattle.kmem_model.specs.declared.cache_entry.Said.TheVariants.{Yes, No, Later, DontNeed, DontKnow}
 use Rattle.kmem_model.specs.Records.{Record, RecordMap, record_at, held_at, is_live, tag_count, IsValid}
-use Rattle.kmem_model.specs.Heap.{Object, HeapState, object_at, record_of, is_leftover, address_in, StandsFor}
+use Rattle.kmem_model.specs.Heap.{Object, HeapState, object_at, record_of, is_leftover, address_in, IsPaired, StandsFor}
 use Rattle.kmem_model.specs.Says.{answer_about, says, heap_after, stage_in, AreInBuffers}
 use Rattle.kmem_model.specs.Settle.{Course, said_at, says_after}
 use Rattle.kmem_model.specs.SettleWhole.{IsWhole, IsWholeStage, is_known}
@@ -30,7 +30,7 @@ count_agree p q d (x ∷ xs) same =
     count-cons p x xs ∙ (ap₂ {A = ℕ} {B = ℕ} (λ m n. m + n) (ap {B = ℕ} (λ b. cond b 1 0) (same 0)) (count_agree p q d xs (λ i. same (suc i))) ∙ sym (count-cons q x xs))
 
 -- the tags with the address of a record are those that hold it
-holds_are : (m : RecordMap) (addresses : List ℕ) (h : HeapState) (id : ℕ) → IsValid m → StandsFor m addresses h → is_live m id ≡ true → count_by (λ a. is_the a (address_in addresses id)) h.tags ≡ tag_count m id
+holds_are : (m : RecordMap) (addresses : List ℕ) (h : HeapState) (id : ℕ) → IsValid m → IsPaired m addresses h → is_live m id ≡ true → count_by (λ a. is_the a (address_in addresses id)) h.tags ≡ tag_count m id
 holds_are m addresses h id v s live =
     ap (count_by (λ a. is_the a (address_in addresses id))) s.tags
     ∙ (count-map (option_map (address_in addresses)) (λ a. is_the a (address_in addresses id)) m.tags
@@ -62,10 +62,10 @@ answer_is s h b stands = by_object (object_at h b) refl
     by_id o e (Some id) is =
         let at = found_lives s.map s.addresses b id is in
         let here : object_at h (address_in s.addresses id) ≡ Some o = ap (object_at h) at.1 ∙ e in
-        let there : is_some o.value ≡ true = live_object s.map s.addresses h id (Some o) stands.stands at.0 here in
-        let same : record_of o ≡ record_at s.map id = sym (ap (option_and_then record_of) here) ∙ stands.stands.records id at.0 in
+        let there : is_some o.value ≡ true = live_object s.map s.addresses h id (Some o) stands.stands.paired at.0 here in
+        let same : record_of o ≡ record_at s.map id = sym (ap (option_and_then record_of) here) ∙ stands.stands.paired.records id at.0 in
         let fixed : o.fixed ≡ is_fixed s.map id = fixed_is s.map id o there same in
-        let holds : o.holds ≡ tag_count s.map id = (stands.stands.tied.objects (address_in s.addresses id) o here).holds ∙ holds_are s.map s.addresses h id stands.valid stands.stands at.0 in
+        let holds : o.holds ≡ tag_count s.map id = (stands.stands.paired.tied.objects (address_in s.addresses id) o here).holds ∙ holds_are s.map s.addresses h id stands.stands.valid stands.stands.paired at.0 in
         cond-false (is_none o.value) DontNeed _ (some_not_none o.value there)
         ∙ (ap (λ f. cond f No (cond (nat_lt 0 o.holds) Later Yes)) fixed ∙ ap (λ n. cond (is_fixed s.map id) No (cond (nat_lt 0 n) Later Yes)) holds)
       where
@@ -78,7 +78,7 @@ answer_is s h b stands = by_object (object_at h b) refl
     by_object (Some o) e = by_id o e (id_at s.map s.addresses b) refl ∙ sym (cond-true (is_out s.cache b) (answer_by s.map (id_at s.map s.addresses b)) DontKnow (sym (stands.places b) ∙ ap is_some e))
 
 -- what a settle works on is the same by the heap and by the map
-pub stage_is : (s : OneState) (h : HeapState) → OneStands s h → stage_in s.cache h ≡ stage_of s
+pub stage_is : (s : OneState) (h : HeapState) → OneStands s h → stage_in s.cache h.objects ≡ stage_of s
 stage_is s h stands =
     ap (λ (given : List Said). record { cache = s.cache; says = given })
     (ext_get_or DontKnow (map answer_about h.objects) (map (answer_at s) (range_with_len 0 (buffers_of s.cache)))
@@ -95,7 +95,7 @@ known_is (Some o) =
     (λ e. cond_both o.fixed _ _ (λ said. is_known said ≡ true) (λ f. refl)
     (λ f. cond_both (nat_lt 0 o.holds) _ _ (λ said. is_known said ≡ true) (λ g. refl) (λ g. refl)))
 
-pub stage_whole : (cache : CacheState) (h : HeapState) → IsWhole cache → has_pending cache ≡ false → AreInBuffers cache h → IsWholeStage (stage_in cache h)
+pub stage_whole : (cache : CacheState) (h : HeapState) → IsWhole cache → has_pending cache ≡ false → AreInBuffers cache h.objects → IsWholeStage (stage_in cache h.objects)
 stage_whole cache h whole calm within =
     record {
       cache = whole;
@@ -105,7 +105,7 @@ stage_whole cache h whole calm within =
     }
 
 -- and where it is whole, the objects lie in the buffers that are out
-pub stage_within : (cache : CacheState) (h : HeapState) → IsWholeStage (stage_in cache h) → AreInBuffers cache h
+pub stage_within : (cache : CacheState) (h : HeapState) → IsWholeStage (stage_in cache h.objects) → AreInBuffers cache h.objects
 stage_within cache h whole =
     record {
       size = sym (length-map h.objects answer_about) ∙ (whole.says ∙ sym whole.cache.asked);
@@ -113,11 +113,11 @@ stage_within cache h whole =
     }
 
 -- what is known lies in the heap
-pub known_within : (cache : CacheState) (h : HeapState) (b : ℕ) → is_known (said_at (stage_in cache h) b) ≡ true → b < length h.objects
+pub known_within : (cache : CacheState) (h : HeapState) (b : ℕ) → is_known (said_at (stage_in cache h.objects) b) ≡ true → b < length h.objects
 known_within cache h b known = omega (arith, reads_within (map answer_about h.objects) b DontKnow is_known refl known, length-map h.objects answer_about)
 
 -- the answer about a buffer is the heap's
-pub said_is : (cache : CacheState) (h : HeapState) (b : ℕ) → said_at (stage_in cache h) b ≡ says h true b
+pub said_is : (cache : CacheState) (h : HeapState) (b : ℕ) → said_at (stage_in cache h.objects) b ≡ says h true b
 said_is cache h b = get_or-map_default answer_about h.objects b None
 
 -- the answers after a move are those of the heap after it
@@ -131,11 +131,10 @@ says_moved h from to DontKnow = refl
 -- A whole settle
 
 -- where the settle of the heap and the cache took this course, the heap stands for what `one` keeps after it
-pub settled_stands : (run : OneRun) (h new : HeapState) (course : Course) → OneStands run.state h → settled (stage_of run.state) ≡ Some course → IsWholeStage course.stage → StandsFor run.state.map (addresses_moved run.state.addresses course.moves) new → AreInBuffers course.stage.cache new → (settled_run run ≡ run_after run course) × OneStands (run_after run course).state new
+pub settled_stands : (run : OneRun) (h new : HeapState) (course : Course) → OneStands run.state h → settled (stage_of run.state) ≡ Some course → IsWholeStage course.stage → StandsFor run.state.map (addresses_moved run.state.addresses course.moves) new → AreInBuffers course.stage.cache new.objects → (settled_run run ≡ run_after run course) × OneStands (run_after run course).state new
 settled_stands run h new course stands e whole after within = (
   ap (λ x. option_map_or (run_after run) x run) e,
   record {
-    valid = stands.valid;
     whole = whole.cache;
     calm = whole.calm;
     stands = after;

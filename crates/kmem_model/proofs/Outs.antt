@@ -51,10 +51,10 @@ same_place b n chunks positive =
         whole : b / chunks ≡ n / chunks → b % chunks ≡ n % chunks → b ≡ n
         whole row column = sym (div-add-mod b chunks) ∙ (ap (λ q. chunks * q + b % chunks) row ∙ (ap (λ r. chunks * (n / chunks) + r) column ∙ div-add-mod n chunks))
 
-listed_out : (slab : SlabState) → (slab_listed slab).out ≡ slab.out
+pub listed_out : (slab : SlabState) → (slab_listed slab).out ≡ slab.out
 listed_out slab = cond_both (is_listed slab) _ _ (λ (s : SlabState). s.out ≡ slab.out) (λ e. refl) (λ e. refl)
 
-freed_out : (to : Standing) (slab : SlabState) (k : ℕ) → (slab_freed to slab k).out ≡ set slab.out k false
+pub freed_out : (to : Standing) (slab : SlabState) (k : ℕ) → (slab_freed to slab k).out ≡ set slab.out k false
 freed_out to slab k =
     cond_both (count_by (λ x. x) (set slab.out k false) == 0) _ _ (λ (s : SlabState). s.out ≡ set slab.out k false)
     (λ e. refl)

@@ -12,7 +12,7 @@ use Rattle.kmem_model.proofs.PlacesKept.{IsKeptMove, IsKept, then_some_says, and
 use Rattle.kmem_model.proofs.PlacesEvents.{IsAllowed, placed_kept}
 use Rattle.kmem_model.proofs.PlacesShown.{same_at, placed_shown}
 use Rattle.kmem_model.proofs.CacheChoices.{map_says, is_the_says, IsOnPartial, partial_listed, partial_within, first_partial_free_says, last_reclaimable_says}
-use Rattle.kmem_model.specs.CacheState.{CacheState, slab_at, slab_in_source, opening}
+use Rattle.kmem_model.specs.CacheState.{sizes_of, CacheState, slab_at, slab_in_source, opening}
 use Rattle.kmem_model.specs.CacheOrder.{is_the, chosen, is_left_out, first_partial_free, is_idle, free_number}
 use Rattle.kmem_model.specs.CacheEnter.{may_begin, with_move}
 use Rattle.kmem_model.specs.Places.{Place, at_source, on_slab, Holder, OpenMove, Shelf, Placing, is_out_place, no_shelf, shelf_at, placing_start}
@@ -181,7 +181,7 @@ always_sound slabs chunks some (e ∷ es) w kept shown = (
 
 -- The opening world
 
-start_kept : (slabs chunks limit : ℕ) (holders : List Holder) → IsKept slabs chunks (placing_start slabs chunks limit holders)
+start_kept : (slabs chunks limit : ℕ) (holders : List Holder) → IsKept slabs chunks (placing_start (sizes_of slabs chunks limit) holders)
 start_kept slabs chunks limit holders =
     record {
       chunks_stay = refl;
@@ -208,7 +208,7 @@ start_kept slabs chunks limit holders =
     apart : Source ≡ Dead → ⊥
     apart h = cc
 
-start_shown : (slabs chunks limit : ℕ) (holders : List Holder) → Shows (opening slabs chunks limit) (placing_start slabs chunks limit holders)
+start_shown : (slabs chunks limit : ℕ) (holders : List Holder) → Shows (opening (sizes_of slabs chunks limit)) (placing_start (sizes_of slabs chunks limit) holders)
 start_shown slabs chunks limit holders =
     record {
       chunks = refl;
@@ -220,7 +220,7 @@ start_shown slabs chunks limit holders =
     }
 
 pub places_law : (slabs chunks limit : ℕ) (holders : List Holder) (events : List Event) → 0 < chunks →
-    AlwaysSound (slabs * chunks) events (world_start slabs chunks limit holders)
+    AlwaysSound (slabs * chunks) events (world_start (sizes_of slabs chunks limit) holders)
 places_law slabs chunks limit holders events some =
-    always_sound slabs chunks some events (world_start slabs chunks limit holders)
+    always_sound slabs chunks some events (world_start (sizes_of slabs chunks limit) holders)
     (start_kept slabs chunks limit holders) (start_shown slabs chunks limit holders)

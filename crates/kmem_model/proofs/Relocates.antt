@@ -4,7 +4,7 @@ use Rattle.std.proofs.lemmas.Bool.{both_ways, cases_eq, eq-eqb, ne_eqb, eqb-true
 use Rattle.std.proofs.lemmas.List.{get_or-set_same, get_or-set_other, length-set, length-map, get_or-map}
 use Rattle.kmem_model.specs.CacheOrder.{is_the}
 use Rattle.kmem_model.specs.Records.{RecordMap, IsValid, is_live}
-use Rattle.kmem_model.specs.Heap.{Object, HeapState, address_of, hold_at, object_at, record_of, has_record, is_leftover, address_in, IsTiedObject, IsTied, StandsFor}
+use Rattle.kmem_model.specs.Heap.{Object, HeapState, address_of, hold_at, object_at, record_of, has_record, is_leftover, address_in, IsTiedObject, IsTied, IsPaired}
 use Rattle.kmem_model.specs.declared.cache_entry.Said.TheVariants as said
 use Rattle.kmem_model.specs.Says.{answer_about, says, moved_address, moved_name, relocated, without_object}
 use Rattle.kmem_model.proofs.CacheLists.{count-cons, count-set_same, count-set_less, count-set_more, counted, get_or-map_default, get_or-set_none}
@@ -165,7 +165,7 @@ module _ (h : HeapState) (old new : ℕ) (o : Object) (here : object_at h old �
 
     -- The map stays
 
-    module _ (m : RecordMap) (a : List ℕ) (valid : IsValid m) (s : StandsFor m a h) (lives : has_record (object_at h old) ≡ true) where
+    module _ (m : RecordMap) (a : List ℕ) (valid : IsValid m) (s : IsPaired m a h) (lives : has_record (object_at h old) ≡ true) where
       no_new : (j : ℕ) → is_live m j ≡ true → address_in a j ≢ new
       no_new j live same = both_ways (has_record (object_at h new)) (ap has_record empty) (live_object m a h j (object_at h new) s live (ap (object_at h) same))
 
@@ -226,7 +226,7 @@ module _ (h : HeapState) (old new : ℕ) (o : Object) (here : object_at h old �
           ∙ ap (option_and_then record_of) (at_other c far off_new))
           (cases_eq c old)
 
-      pub stands_moved : StandsFor m (map (moved_address old new) a) (relocated h old new)
+      pub stands_moved : IsPaired m (map (moved_address old new) a) (relocated h old new)
       stands_moved =
           record {
             size = length-map a (moved_address old new) ∙ s.size;
@@ -284,14 +284,14 @@ need_is (Some o) e = by o.value o.fixed (nat_lt 0 o.holds) e
 
 -- The two answers that change a heap
 
-pub moved_stands : (m : RecordMap) (a : List ℕ) (h : HeapState) (old new : ℕ) → IsValid m → StandsFor m a h → object_at h new ≡ None → new < length h.objects → says h true old ≡ said.Yes →
-    StandsFor m (map (moved_address old new) a) (relocated h old new)
+pub moved_stands : (m : RecordMap) (a : List ℕ) (h : HeapState) (old new : ℕ) → IsValid m → IsPaired m a h → object_at h new ≡ None → new < length h.objects → says h true old ≡ said.Yes →
+    IsPaired m (map (moved_address old new) a) (relocated h old new)
 moved_stands m a h old new valid s empty low answer =
     let it = yes_is (object_at h old) (sym answer) in
     stands_moved h old new it.o it.is empty low s.tied it.free (valued_used h old it.o (s.tied.objects old it.o it.is) it.has) m a valid s (ap has_record it.is ∙ it.has)
 
 -- an object without a record is one that no live id has, and so no name and no tag
-pub without_stands : (m : RecordMap) (a : List ℕ) (h : HeapState) (old : ℕ) → IsValid m → StandsFor m a h → says h true old ≡ said.DontNeed → StandsFor m a (without_object h old)
+pub without_stands : (m : RecordMap) (a : List ℕ) (h : HeapState) (old : ℕ) → IsValid m → IsPaired m a h → says h true old ≡ said.DontNeed → IsPaired m a (without_object h old)
 without_stands m a h old valid s unneeded =
     record {
       size = s.size;

@@ -161,7 +161,7 @@ few_partial stage settled unmarked' =
     ))
     settled.partial
 
-out_forgotten : (xs : List SlabState) → sum_by used (map unmarked xs) ≡ sum_by used xs
+pub out_forgotten : (xs : List SlabState) → sum_by used (map unmarked xs) ≡ sum_by used xs
 out_forgotten xs = sym (sum-map used (map unmarked xs)) ∙ (ap sum (map-map unmarked used xs) ∙ sum-map used xs)
 
 pub settle_fewest : (n : ℕ) (stage : Stage) (result : Course) → IsWholeStage stage → AreAllMovable stage → settled_in n stage ≡ Some result →

@@ -12,7 +12,7 @@ use Rattle.kmem_model.proofs.SettleKept.{IsNext, next_says, next_from, IsMovedOn
 use Rattle.kmem_model.specs.CacheState.{CacheState, is_out}
 use Rattle.kmem_model.specs.CacheOrder.{is_the, first_partial_free, chosen, free_number, is_idle}
 use Rattle.kmem_model.specs.CacheEnter.{with_move, scan_started, may_begin, enter}
-use Rattle.kmem_model.specs.CacheHistory.{IsLegal, MayBegin}
+use Rattle.kmem_model.specs.CacheHistory.{MayEnter, MayBegin}
 use Rattle.kmem_model.specs.Settle.{Stage, EndedMove, Course, said_at, next_move, after_move, cache_after_move, one_move_on, moved_in, moved, scanned}
 use Rattle.kmem_model.specs.SettleWhole.{IsWholeStage, is_known}
 use Rattle.kmem_model.specs.SettleMeasure.{moves_left}
@@ -226,7 +226,7 @@ move_made course j from to begun ended whole begins ends =
 
 -- any answer may end the move that begins
 pub end_legal : (stage : Stage) (j from to : ℕ) (begun : CacheState) (said : Said) → IsWholeStage stage →
-    enter stage.cache (Begin j from to) ≡ Some begun → IsLegal begun (End j said)
+    enter stage.cache (Begin j from to) ≡ Some begun → MayEnter begun (End j said)
 end_legal stage j from to begun said whole begins =
     let next : IsNext stage from to (said_at stage from) = (begin_next stage j from to begun whole begins).1 in
     let chosen : Chosen stage.cache from to = choice_says stage.cache from to next.old next.new in

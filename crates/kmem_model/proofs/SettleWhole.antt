@@ -10,7 +10,7 @@ use Rattle.kmem_model.proofs.CacheLists.{reads_within, any-set_some}
 use Rattle.kmem_model.proofs.PlacesKept.{then_some_says, and_then_says}
 use Rattle.kmem_model.proofs.CacheChoices.{map_says}
 use Rattle.kmem_model.proofs.CacheKept.{FitsCount, IsKeptSlab, IsKeptState, enter_kept, opening_kept}
-use Rattle.kmem_model.specs.CacheState.{SlabState, CacheState, is_same_standing, no_slab, slab_at, slab_in_source, is_listed, is_dead, used, is_out_on, is_out, move_at, has_pending, opening}
+use Rattle.kmem_model.specs.CacheState.{sizes_of, SlabState, CacheState, is_same_standing, no_slab, slab_at, slab_in_source, is_listed, is_dead, used, is_out_on, is_out, move_at, has_pending, opening}
 use Rattle.kmem_model.specs.CacheOrder.{is_the}
 use Rattle.kmem_model.specs.CacheEnter.{unmarked, slab_taken, slab_freed, slab_never, slab_later, slab_given_back, slab_answered, on_slab_of, with_move, emptied_goes, freed, all_freed, handed_back, without_move, with_answer, scan_started, gone, ended, enter}
 use Rattle.kmem_model.specs.SettleWhole.{IsWholeSlab, IsWhole, IsWholeStage, is_known}
@@ -555,10 +555,10 @@ any-replicate_none : (n : ℕ) → list_any {X = Option PendingMove} is_some (re
 any-replicate_none zero = refl
 any-replicate_none (suc n) = any-replicate_none n
 
-pub opening_calm : (slabs chunks limit : ℕ) → has_pending (opening slabs chunks limit) ≡ false
+pub opening_calm : (slabs chunks limit : ℕ) → has_pending (opening (sizes_of slabs chunks limit)) ≡ false
 opening_calm slabs chunks limit = any-replicate_none limit
 
-pub opening_whole : (slabs chunks limit : ℕ) → 0 < chunks → 0 < limit → IsWhole (opening slabs chunks limit)
+pub opening_whole : (slabs chunks limit : ℕ) → 0 < chunks → 0 < limit → IsWhole (opening (sizes_of slabs chunks limit))
 opening_whole slabs chunks limit some more =
     record {
       positive = some;
@@ -570,7 +570,7 @@ opening_whole slabs chunks limit some more =
       dead = λ calm. All-replicate (λ slab. is_dead slab ≡ false) slabs (slab_in_source chunks) refl;
     }
   where
-    kept : IsKeptState (opening slabs chunks limit)
+    kept : IsKeptState (opening (sizes_of slabs chunks limit))
     kept = opening_kept slabs chunks limit some
 
 get_or-replicate_default : {A : Type 0} (n i : ℕ) (a : A) → get_or (replicate n a) i a ≡ a
@@ -579,7 +579,7 @@ get_or-replicate_default (suc n) zero a = refl
 get_or-replicate_default (suc n) (suc i) a = get_or-replicate_default n i a
 
 -- at the opening no buffer is out
-opening_free : (slabs chunks limit b : ℕ) → is_out (opening slabs chunks limit) b ≡ false
+opening_free : (slabs chunks limit b : ℕ) → is_out (opening (sizes_of slabs chunks limit)) b ≡ false
 opening_free slabs chunks limit b =
     ⊎_elim
     (λ below.
@@ -592,7 +592,7 @@ opening_free slabs chunks limit b =
 
 -- a client that knows no object, beside a cache at its opening
 pub opening_stage : (slabs chunks limit : ℕ) → 0 < chunks → 0 < limit →
-    IsWholeStage (record { cache = opening slabs chunks limit; says = replicate (slabs * chunks) DontKnow })
+    IsWholeStage (record { cache = opening (sizes_of slabs chunks limit); says = replicate (slabs * chunks) DontKnow })
 opening_stage slabs chunks limit some more =
     record {
       cache = opening_whole slabs chunks limit some more;

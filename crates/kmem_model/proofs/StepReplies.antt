@@ -8,8 +8,7 @@ use Rattle.kmem_model.proofs.CacheSearch.{least_from_some}
 use Rattle.kmem_model.proofs.Legal.{placed_is}
 use Rattle.kmem_model.specs.Records.{RecordMap, tag_place, id_of, held_at, name_count, least_name}
 use Rattle.kmem_model.specs.RecordStep.{Step, put_step, get_step, del_step, at_step, link_step, hold_step, read_step, write_step, drop_step, fix_step, step}
-use Rattle.kmem_model.specs.History.{is_full_due}
-use Rattle.kmem_model.specs.One.{OneState, OneStep, buffers_of, one_step}
+use Rattle.kmem_model.specs.One.{OneState, OneStep, one_step, is_refused}
 
 abbrev Within : RecordMap → Step → Type 0
 Within m next = IsReplyWithinNames (length m.names) next.reply
@@ -65,15 +64,15 @@ step_within m worker First = at_within m 0 (least_name m 0) refl
 step_within m worker (Next name) = at_within m (name.0 + 1) (least_name m (name.0 + 1)) refl
 step_within m worker Count = tt
 step_within m worker (Link name other) = link_within m other.0 (id_of m name.0)
-step_within m worker (Hold tag name) = hold_within m (tag_place worker tag.0) (held_at m (tag_place worker tag.0)) (id_of m name.0)
-step_within m worker (Read tag) = read_within m (held_at m (tag_place worker tag.0))
-step_within m worker (Write tag value) = write_within m value (held_at m (tag_place worker tag.0))
-step_within m worker (Drop tag) = drop_within m (tag_place worker tag.0) (held_at m (tag_place worker tag.0))
+step_within m worker (Hold tag name) = hold_within m (tag_place worker tag) (held_at m (tag_place worker tag)) (id_of m name.0)
+step_within m worker (Read tag) = read_within m (held_at m (tag_place worker tag))
+step_within m worker (Write tag value) = write_within m value (held_at m (tag_place worker tag))
+step_within m worker (Drop tag) = drop_within m (tag_place worker tag) (held_at m (tag_place worker tag))
 step_within m worker (Fix name) = fix_within m true (id_of m name.0)
 step_within m worker (Loose name) = fix_within m false (id_of m name.0)
 
 pub one_within : (s : OneState) (worker : ℕ) (command : Command) → IsReplyWithinNames (length s.map.names) (one_step s worker command).reply
 one_within s worker command =
-    cond_both (is_full_due (buffers_of s.cache) s.map command) _ _ (λ (made : OneStep). IsReplyWithinNames (length s.map.names) made.reply)
+    cond_both (is_refused s command) _ _ (λ (made : OneStep). IsReplyWithinNames (length s.map.names) made.reply)
     (λ due. tt)
     (λ free. subst (λ reply. IsReplyWithinNames (length s.map.names) reply) (sym (placed_is s command (step s.map worker command)).reply) (step_within s.map worker command))

@@ -28,7 +28,7 @@ looks_leave m worker (Get name) looks = get_looks m (id_of m name.0)
 looks_leave m worker First looks = at_looks m (least_name m 0)
 looks_leave m worker (Next name) looks = at_looks m (least_name m (name.0 + 1))
 looks_leave m worker Count looks = refl
-looks_leave m worker (Read tag) looks = read_looks m (held_at m (tag_place worker tag.0))
+looks_leave m worker (Read tag) looks = read_looks m (held_at m (tag_place worker tag))
 looks_leave m worker (Put name value) looks = absurd (both_ways false refl looks)
 looks_leave m worker (Del name) looks = absurd (both_ways false refl looks)
 looks_leave m worker (Link name other) looks = absurd (both_ways false refl looks)
@@ -70,8 +70,8 @@ tags_stay m worker First leaves = ap (λ (n : RecordMap). n.tags) (at_looks m (l
 tags_stay m worker (Next name) leaves = ap (λ (n : RecordMap). n.tags) (at_looks m (least_name m (name.0 + 1)))
 tags_stay m worker Count leaves = refl
 tags_stay m worker (Link name other) leaves = link_tags m other.0 (id_of m name.0)
-tags_stay m worker (Read tag) leaves = ap (λ (n : RecordMap). n.tags) (read_looks m (held_at m (tag_place worker tag.0)))
-tags_stay m worker (Write tag value) leaves = write_tags m value (held_at m (tag_place worker tag.0))
+tags_stay m worker (Read tag) leaves = ap (λ (n : RecordMap). n.tags) (read_looks m (held_at m (tag_place worker tag)))
+tags_stay m worker (Write tag value) leaves = write_tags m value (held_at m (tag_place worker tag))
 tags_stay m worker (Fix name) leaves = fix_tags m true (id_of m name.0)
 tags_stay m worker (Loose name) leaves = fix_tags m false (id_of m name.0)
 tags_stay m worker (Hold tag name) leaves = absurd (both_ways false refl leaves)
@@ -82,8 +82,8 @@ hold_done m place (Some other) named done = absurd (cc)
 hold_done m place None None done = absurd (cc)
 hold_done m place None (Some id) done = (id, refl)
 
-pub tag_held : (m : RecordMap) (worker : ℕ) (tag : Tag) (name : NameId) → (step m worker (Hold tag name)).reply ≡ Done → (id : ℕ) × ((step m worker (Hold tag name)).map.tags ≡ set m.tags (tag_place worker tag.0) (Some id))
-tag_held m worker tag name done = hold_done m (tag_place worker tag.0) (held_at m (tag_place worker tag.0)) (id_of m name.0) done
+pub tag_held : (m : RecordMap) (worker : ℕ) (tag : Tag) (name : NameId) → (step m worker (Hold tag name)).reply ≡ Done → (id : ℕ) × ((step m worker (Hold tag name)).map.tags ≡ set m.tags (tag_place worker tag) (Some id))
+tag_held m worker tag name done = hold_done m (tag_place worker tag) (held_at m (tag_place worker tag)) (id_of m name.0) done
 
 hold_not_done : (m : RecordMap) (place : ℕ) (held named : Option ℕ) → (hold_step m place held named).reply ≢ Done → (hold_step m place held named).map.tags ≡ m.tags
 hold_not_done m place (Some other) named other_reply = refl
@@ -91,11 +91,11 @@ hold_not_done m place None None other_reply = refl
 hold_not_done m place None (Some id) other_reply = absurd (other_reply refl)
 
 pub tag_not_held : (m : RecordMap) (worker : ℕ) (tag : Tag) (name : NameId) → (step m worker (Hold tag name)).reply ≢ Done → (step m worker (Hold tag name)).map.tags ≡ m.tags
-tag_not_held m worker tag name other_reply = hold_not_done m (tag_place worker tag.0) (held_at m (tag_place worker tag.0)) (id_of m name.0) other_reply
+tag_not_held m worker tag name other_reply = hold_not_done m (tag_place worker tag) (held_at m (tag_place worker tag)) (id_of m name.0) other_reply
 
 drop_tags : (m : RecordMap) (place : ℕ) (held : Option ℕ) → is_some held ≡ true → (drop_step m place held).map.tags ≡ set m.tags place None
 drop_tags m place None there = absurd (both_ways false refl there)
 drop_tags m place (Some id) there = cond_both (is_used (with_tag m place None) id) _ _ (λ (n : RecordMap). n.tags ≡ set m.tags place None) (λ e. refl) (λ e. refl)
 
-pub tag_dropped : (m : RecordMap) (worker : ℕ) (tag : Tag) → is_some (held_at m (tag_place worker tag.0)) ≡ true → (step m worker (Drop tag)).map.tags ≡ set m.tags (tag_place worker tag.0) None
-tag_dropped m worker tag there = drop_tags m (tag_place worker tag.0) (held_at m (tag_place worker tag.0)) there
+pub tag_dropped : (m : RecordMap) (worker : ℕ) (tag : Tag) → is_some (held_at m (tag_place worker tag)) ≡ true → (step m worker (Drop tag)).map.tags ≡ set m.tags (tag_place worker tag) None
+tag_dropped m worker tag there = drop_tags m (tag_place worker tag) (held_at m (tag_place worker tag)) there

@@ -23,7 +23,7 @@ none_from : {X : Type 0} (x : Option X) → is_some x ≡ false → x ≡ None
 none_from None e = refl
 none_from (Some x) e = absurd (both_ways true e refl)
 
-put_keeps : (m : RecordMap) (name : ℕ) (value : List ℕ) → name < length m.names → IsValid m → (id : Option ℕ) → id_of m name ≡ id → Keeps m (put_step m name value id)
+pub put_keeps : (m : RecordMap) (name : ℕ) (value : List ℕ) → name < length m.names → IsValid m → (id : Option ℕ) → id_of m name ≡ id → Keeps m (put_step m name value id)
 put_keeps m name value below v None e = record { valid = valid_new m name value below e v; names = length-set m.names name (Some (length m.records)); tags = refl }
 put_keeps m name value below v (Some id) e = changed m id _ v
 
@@ -48,7 +48,7 @@ dropped_tags : (m : RecordMap) (place id : ℕ) (used : Bool) → length (cond u
 dropped_tags m place id true = length-set m.tags place None
 dropped_tags m place id false = length-set m.tags place None
 
-del_keeps : (m : RecordMap) (name : ℕ) → IsValid m → (id : Option ℕ) → id_of m name ≡ id → Keeps m (del_step m name id)
+pub del_keeps : (m : RecordMap) (name : ℕ) → IsValid m → (id : Option ℕ) → id_of m name ≡ id → Keeps m (del_step m name id)
 del_keeps m name v None e = same m v
 del_keeps m name v (Some id) e =
     record {
@@ -61,7 +61,7 @@ at_keeps : (m : RecordMap) → IsValid m → (name : Option ℕ) → Keeps m (at
 at_keeps m v None = same m v
 at_keeps m v (Some name) = same m v
 
-link_keeps : (m : RecordMap) (name other : ℕ) → other < length m.names → IsValid m → (id : Option ℕ) → id_of m name ≡ id → Keeps m (link_step m other id)
+pub link_keeps : (m : RecordMap) (name other : ℕ) → other < length m.names → IsValid m → (id : Option ℕ) → id_of m name ≡ id → Keeps m (link_step m other id)
 link_keeps m name other below v None e = same m v
 link_keeps m name other below v (Some id) e =
     cond_both (is_some (id_of m other)) _ _ (Keeps m)
@@ -74,7 +74,7 @@ link_keeps m name other below v (Some id) e =
       tags = refl;
     }))
 
-hold_keeps : (m : RecordMap) (place name : ℕ) → place < length m.tags → IsValid m → (held id : Option ℕ) → held_at m place ≡ held → id_of m name ≡ id → Keeps m (hold_step m place held id)
+pub hold_keeps : (m : RecordMap) (place name : ℕ) → place < length m.tags → IsValid m → (held id : Option ℕ) → held_at m place ≡ held → id_of m name ≡ id → Keeps m (hold_step m place held id)
 hold_keeps m place name below v (Some other) id h e = same m v
 hold_keeps m place name below v None None h e = same m v
 hold_keeps m place name below v None (Some id) h e = record { valid = valid_tagged m place id below h (v.named name id e) v; names = refl; tags = length-set m.tags place (Some id) }
@@ -83,11 +83,11 @@ read_keeps : (m : RecordMap) → IsValid m → (held : Option ℕ) → Keeps m (
 read_keeps m v None = same m v
 read_keeps m v (Some id) = same m v
 
-write_keeps : (m : RecordMap) (value : List ℕ) → IsValid m → (held : Option ℕ) → Keeps m (write_step m value held)
+pub write_keeps : (m : RecordMap) (value : List ℕ) → IsValid m → (held : Option ℕ) → Keeps m (write_step m value held)
 write_keeps m value v None = same m v
 write_keeps m value v (Some id) = changed m id _ v
 
-drop_keeps : (m : RecordMap) (place : ℕ) → IsValid m → (held : Option ℕ) → held_at m place ≡ held → Keeps m (drop_step m place held)
+pub drop_keeps : (m : RecordMap) (place : ℕ) → IsValid m → (held : Option ℕ) → held_at m place ≡ held → Keeps m (drop_step m place held)
 drop_keeps m place v None h = same m v
 drop_keeps m place v (Some id) h =
     record {
@@ -96,7 +96,7 @@ drop_keeps m place v (Some id) h =
       tags = dropped_tags m place id (is_used (with_tag m place None) id);
     }
 
-fix_keeps : (m : RecordMap) (fixed : Bool) → IsValid m → (id : Option ℕ) → Keeps m (fix_step m fixed id)
+pub fix_keeps : (m : RecordMap) (fixed : Bool) → IsValid m → (id : Option ℕ) → Keeps m (fix_step m fixed id)
 fix_keeps m fixed v None = same m v
 fix_keeps m fixed v (Some id) = changed m id _ v
 
@@ -112,10 +112,10 @@ step_keeps m worker First v r = at_keeps m v (least_name m 0)
 step_keeps m worker (Next name) v r = at_keeps m v (least_name m (name.0 + 1))
 step_keeps m worker Count v r = same m v
 step_keeps m worker (Link name other) v r = link_keeps m name.0 other.0 r.names.1 v (id_of m name.0) refl
-step_keeps m worker (Hold tag name) v r = hold_keeps m (tag_place worker tag.0) name.0 (place_within worker tag.0 (length m.tags) r.first r.tags r.last) v (held_at m (tag_place worker tag.0)) (id_of m name.0) refl refl
-step_keeps m worker (Read tag) v r = read_keeps m v (held_at m (tag_place worker tag.0))
-step_keeps m worker (Write tag value) v r = write_keeps m value v (held_at m (tag_place worker tag.0))
-step_keeps m worker (Drop tag) v r = drop_keeps m (tag_place worker tag.0) v (held_at m (tag_place worker tag.0)) refl
+step_keeps m worker (Hold tag name) v r = hold_keeps m (tag_place worker tag) name.0 (place_within worker tag (length m.tags) r.first r.tags r.last) v (held_at m (tag_place worker tag)) (id_of m name.0) refl refl
+step_keeps m worker (Read tag) v r = read_keeps m v (held_at m (tag_place worker tag))
+step_keeps m worker (Write tag value) v r = write_keeps m value v (held_at m (tag_place worker tag))
+step_keeps m worker (Drop tag) v r = drop_keeps m (tag_place worker tag) v (held_at m (tag_place worker tag)) refl
 step_keeps m worker (Fix name) v r = fix_keeps m true v (id_of m name.0)
 step_keeps m worker (Loose name) v r = fix_keeps m false v (id_of m name.0)
 

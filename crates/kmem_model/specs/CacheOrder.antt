@@ -46,10 +46,6 @@ is_the (Some m) n = m == n
 abbrev pub is_partial : SlabState → Bool
 is_partial slab = is_listed slab && nat_lt 0 (used slab) && nat_lt (used slab) (length slab.out)
 
--- all of the slab's buffers are out
-abbrev pub is_complete : SlabState → Bool
-is_complete slab = is_listed slab && used slab == length slab.out
-
 -- the slab has the no-move mark
 abbrev pub is_marked : SlabState → Bool
 is_marked slab = is_some slab.stuck
@@ -84,11 +80,19 @@ first_partial_free chunks slabs =
 abbrev pub first_of_slab : ℕ → List SlabState → (SlabState → Bool) → Option ℕ
 first_of_slab chunks slabs test = option_map (λ i. i * chunks) (least_below (length slabs) (λ i. test (slab_at slabs i)))
 
--- the buffer that the next allocation takes: of the first partial slab, else of the source, else of a dead slab
+-- the three ways to a buffer: from the first partial slab, by a slab of the source, and by a dead slab that is taken back
+abbrev pub from_partial : CacheState → Option ℕ
+from_partial s = first_partial_free s.chunks s.slabs
+
+abbrev pub by_growth : CacheState → Option ℕ
+by_growth s = first_of_slab s.chunks s.slabs is_in_source
+
+abbrev pub by_revival : CacheState → Option ℕ
+by_revival s = first_of_slab s.chunks s.slabs is_dead
+
+-- the buffer that the next allocation takes: the first of the three that gives one
 abbrev pub wanted : CacheState → Option ℕ
-wanted s =
-    option_or (first_partial_free s.chunks s.slabs)
-    (option_or (first_of_slab s.chunks s.slabs is_in_source) (first_of_slab s.chunks s.slabs is_dead))
+wanted s = option_or (from_partial s) (option_or (by_growth s) (by_revival s))
 
 -- more than an eighth of the buffers of listed slabs is free on partial slabs
 abbrev pub is_fragmented : CacheState → Bool

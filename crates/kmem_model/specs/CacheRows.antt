@@ -1,7 +1,7 @@
 -- The worked rows: cache histories with the states that they leave, and the same with one wrong entry (this
 -- project's own).
 use Rattle.std.specs.Prelude.{ℕ, Bool, true, false, List, [], ◌∷◌, ◌++◌, Option, Some, None, is_some, map, option_map, replicate, slice_set}
-use Rattle.kmem_model.specs.CacheState.{SlabState, CacheState, slab_count, free_count, out_count, pending_count, dead_count, slab_in_source}
+use Rattle.kmem_model.specs.CacheState.{sizes_of, SlabState, CacheState, slab_count, free_count, out_count, pending_count, dead_count, slab_in_source}
 use Rattle.kmem_model.specs.CacheHistory.{cache_after}
 use Rattle.kmem_model.specs.declared.cache_state.Standing.TheVariants.{Listed}
 use Rattle.kmem_model.specs.declared.cache_state.Mode.{Mode}
@@ -18,7 +18,7 @@ by_one_pass entries = map (λ e. (0, e)) entries
 
 -- the state that these entries leave in a cache with this many slabs and buffers in a slab, and the limit 64
 abbrev pub after : ℕ → ℕ → List CacheEntry → Option CacheState
-after slabs chunks entries = cache_after slabs chunks 64 (by_one_pass entries)
+after slabs chunks entries = cache_after (sizes_of slabs chunks 64) (by_one_pass entries)
 
 -- these entries are legal one after another
 abbrev pub is_legal_row : ℕ → ℕ → List CacheEntry → Bool

@@ -1,8 +1,6 @@
 -- What the movers' scans leave in a cache history (this project's own).
-use Rattle.std.specs.Prelude.{ℕ, ◌≤◌, ◌≡◌, Bool, true, false, ◌&&◌, ◌||◌, not, ◌==◌, List, [], ◌∷◌, ◌++◌, All, count_by, filter, map, length, take_while, IfSome, if◌then◌else◌}
+use Rattle.std.specs.Prelude.{ℕ, Bool, true, false, ◌&&◌, ◌||◌, not, ◌==◌, List, [], ◌∷◌, filter, map, length, take_while, if◌then◌else◌}
 use Rattle.std.specs.List.{list_all}
-use Rattle.kmem_model.specs.CacheState.{CacheState, pending_count}
-use Rattle.kmem_model.specs.CacheHistory.{state_after}
 use Rattle.kmem_model.specs.declared.cache_entry.CacheEntry.{CacheEntry}
 use Rattle.kmem_model.specs.declared.cache_entry.CacheEntry.TheVariants.{Scan, Begin, Idle}
 
@@ -21,10 +19,13 @@ abbrev pub is_idle_entry : CacheEntry → Bool
 is_idle_entry Idle = true
 is_idle_entry _ = false
 
--- the Scan, Begin and Idle entries of one pass, in order
+-- the Scan, Begin and Idle entries of these, in order
+abbrev pub scanning : List CacheEntry → List CacheEntry
+scanning entries = filter (λ e. is_scan e || is_begin e || is_idle_entry e) entries
+
+-- those of one pass
 abbrev pub scan_entries : ℕ → List (ℕ × CacheEntry) → List CacheEntry
-scan_entries pass history =
-    filter (λ e. is_scan e || is_begin e || is_idle_entry e) (map (λ e. e.1) (filter (λ e. e.0 == pass) history))
+scan_entries pass history = scanning (map (λ e. e.1) (filter (λ e. e.0 == pass) history))
 
 -- Begin entries, and one Idle as the last of all
 abbrev pub ends_idle : List CacheEntry → Bool
@@ -40,15 +41,3 @@ is_round es = ends_idle es || (list_all is_begin es && length es == 64)
 abbrev pub has_rounds : List CacheEntry → Bool
 has_rounds [] = true
 has_rounds (e ∷ es) = (if is_scan e then is_round (take_while (λ x. not (is_scan x)) es) else true) && has_rounds es
-
--- the history has exactly this many scans of this kind, by passes from `workers` on, each with its round.
--- Where one pass makes all of them, no move is pending just before any, nor at the end
-pub record Scanned (start : CacheState) (history : List (ℕ × CacheEntry)) (workers scans : ℕ) (desperate : Bool) : Type 0 where
-  pub number : count_by (λ e. is_scan e.1) history ≡ scans
-  pub kind : All (λ e. is_scan e.1 ≡ true → (e.1 ≡ Scan desperate) × (workers ≤ e.0)) history
-  pub rounds : (pass : ℕ) → workers ≤ pass → has_rounds (scan_entries pass history) ≡ true
-  pub done_before : (pass : ℕ) → All (λ e. is_scan e.1 ≡ true → e.0 ≡ pass) history →
-      (front rest : List (ℕ × CacheEntry)) (kind : Bool) → history ≡ front ++ ((pass, Scan kind) ∷ rest) →
-      IfSome (state_after start front) (λ s. pending_count s ≡ 0)
-  pub done_at_end : (pass : ℕ) → All (λ e. is_scan e.1 ≡ true → e.0 ≡ pass) history →
-      IfSome (state_after start history) (λ s. pending_count s ≡ 0)

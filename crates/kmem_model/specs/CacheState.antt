@@ -114,16 +114,28 @@ pending_count s = count_by is_some s.pending
 abbrev pub dead_count : CacheState → ℕ
 dead_count s = count_by is_dead s.slabs
 
+-- the sizes of a cache
+pub record CacheSizes : Type 0 where
+  -- how many slabs there are
+  pub slabs : ℕ
+  -- how many buffers a slab has
+  pub chunks : ℕ
+  -- how many moves may be pending
+  pub limit : ℕ
+
+abbrev pub sizes_of : ℕ → ℕ → ℕ → CacheSizes
+sizes_of slabs chunks limit = record { slabs = slabs; chunks = chunks; limit = limit }
+
 -- the opening state: every slab in the source, the mode off, and nothing pending
-abbrev pub opening : ℕ → ℕ → ℕ → CacheState
-opening slabs chunks limit =
+abbrev pub opening : CacheSizes → CacheState
+opening sizes =
     record {
-      chunks = chunks;
-      slabs = replicate slabs (slab_in_source chunks);
+      chunks = sizes.chunks;
+      slabs = replicate sizes.slabs (slab_in_source sizes.chunks);
       mode = Off;
       numerator = 1;
       found_fragmented = false;
       begun = false;
-      asked = replicate (slabs * chunks) false;
-      pending = replicate limit None;
+      asked = replicate (sizes.slabs * sizes.chunks) false;
+      pending = replicate sizes.limit None;
     }

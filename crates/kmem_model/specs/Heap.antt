@@ -1,8 +1,8 @@
 -- A heap of objects found by address, and when it stands for a record map (this project's own rule).
 use Rattle.std.specs.Prelude.{ℕ, ◌≡◌, ◌+◌, ◌==◌, Bool, true, false, List, [], Option, Some, None, is_some, is_none, option_map, option_and_then, map, count_by, length, slice_index_or}
 use Rattle.std.specs.List.{list_any}
-use Rattle.kmem_model.specs.CacheOrder.{is_the}
-use Rattle.kmem_model.specs.Records.{Record, RecordMap, record_at, is_live, live_count}
+use Rattle.kmem_model.specs.CacheOrder.{is_the, least_below}
+use Rattle.kmem_model.specs.Records.{Record, RecordMap, IsValid, record_at, is_live, live_count}
 
 -- an object of a heap
 pub record Object : Type 0 where
@@ -62,9 +62,13 @@ kept_count h = count_by has_record h.objects
 abbrev pub leftover_count : HeapState → ℕ
 leftover_count h = count_by is_leftover h.objects
 
+-- the least address of a leftover
+abbrev pub least_left_in : HeapState → Option ℕ
+least_left_in h = least_below (length h.objects) (λ b. is_leftover (object_at h b))
+
 -- for each address, whether there is an object
-abbrev pub places_of : HeapState → List Bool
-places_of h = map is_some h.objects
+abbrev pub places_of : List (Option Object) → List Bool
+places_of objects = map is_some objects
 
 -- what an object at this address has to do with the names and tags of its heap
 pub record IsTiedObject (h : HeapState) (b : ℕ) (o : Object) : Type 0 where
@@ -86,8 +90,8 @@ pub record IsTied (h : HeapState) : Type 0 where
 abbrev pub address_in : List ℕ → ℕ → ℕ
 address_in addresses id = slice_index_or addresses id 0
 
--- A heap stands for a record map, where the live ids have these addresses
-pub record StandsFor (m : RecordMap) (addresses : List ℕ) (h : HeapState) : Type 0 where
+-- the live ids of a record map and the addresses of a heap's records are paired, where the ids have these addresses
+pub record IsPaired (m : RecordMap) (addresses : List ℕ) (h : HeapState) : Type 0 where
   pub size : length addresses ≡ length m.records
   -- each name's address is that of its id, and so is each tag's
   pub names : h.names ≡ map (option_map (address_in addresses)) m.names
@@ -100,3 +104,8 @@ pub record StandsFor (m : RecordMap) (addresses : List ℕ) (h : HeapState) : Ty
   pub count : kept_count h ≡ live_count m
   -- back references, hold counts and leftovers
   pub tied : IsTied h
+
+-- A heap stands for a record map, where the live ids have these addresses: the map is valid, and the two are paired
+pub record StandsFor (m : RecordMap) (addresses : List ℕ) (h : HeapState) : Type 0 where
+  pub valid : IsValid m
+  pub paired : IsPaired m addresses h

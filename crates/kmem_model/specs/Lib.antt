@@ -12,6 +12,7 @@ pub mod CacheOrder
 pub mod CacheEnter
 pub mod CacheHistory
 pub mod CacheRows
+pub mod CacheCounts
 pub mod CacheScans
 pub mod Settle
 pub mod SettleRows
@@ -23,4 +24,5 @@ pub mod PlacesEvent
 pub mod PlacesLaw
 pub mod PlacesRows
 pub mod Report
+pub mod SettleEntries
 pub mod SettleMarks

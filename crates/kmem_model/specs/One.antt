@@ -1,11 +1,11 @@
 -- What `one` keeps, and its step: a command in the order of the file on one thread (this project's own rule).
-use Rattle.std.specs.Prelude.{ℕ, ◌==◌, ◌&&◌, List, [], ◌∷◌, ◌++◌, length, Option, Some, None, is_none, is_some, if◌then◌else◌}
+use Rattle.std.specs.Prelude.{ℕ, Bool, ◌==◌, ◌&&◌, List, [], ◌∷◌, ◌++◌, length, Option, Some, None, is_none, is_some, if◌then◌else◌}
 use Rattle.std.specs.Option.{option_map_or}
 use Rattle.kmem_text.specs.declared.command.Command.{Command}
 use Rattle.kmem_text.specs.declared.command.Command.TheVariants.{Put, Del}
 use Rattle.kmem_text.specs.declared.command.Reply.{Reply}
 use Rattle.kmem_text.specs.declared.command.Reply.TheVariants.{Full}
-use Rattle.kmem_model.specs.CacheState.{CacheState, is_out, opening}
+use Rattle.kmem_model.specs.CacheState.{CacheState, sizes_of, is_out, opening}
 use Rattle.kmem_model.specs.CacheOrder.{least_below, wanted}
 use Rattle.kmem_model.specs.CacheEnter.{is_full, enter}
 use Rattle.kmem_model.specs.declared.cache_entry.CacheEntry.{CacheEntry}
@@ -13,7 +13,7 @@ use Rattle.kmem_model.specs.declared.cache_entry.CacheEntry.TheVariants as entry
 use Rattle.kmem_model.specs.Records.{RecordMap, id_of, is_live, no_records}
 use Rattle.kmem_model.specs.RecordStep.{Step, step}
 use Rattle.kmem_model.specs.Heap.{address_in}
-use Rattle.kmem_model.specs.History.{is_full_due}
+use Rattle.kmem_model.specs.History.{is_put_of_absent}
 
 -- what `one` keeps: the record map, the state of the cache, and the address of each id that was ever given
 pub record OneState : Type 0 where
@@ -64,11 +64,18 @@ placed_step s (Put name value) next =
 placed_step s (Del name) next = record { reply = next.reply; state = record { map = next.map; cache = cache_without s next.map (id_of s.map name.0); addresses = s.addresses } }
 placed_step s _ next = record { reply = next.reply; state = record s { map = next.map } }
 
+-- there is no room for a further record: every buffer is out, and none of them has a leftover
+abbrev pub has_no_room : OneState → Bool
+has_no_room s = is_full s.cache && is_none (least_leftover s)
+
+-- a put that finds no room
+abbrev pub is_refused : OneState → Command → Bool
+is_refused s command = is_put_of_absent s.map command && has_no_room s
+
 -- a command of `one`: a put that finds no room is refused, and each other command is the map's step
 abbrev pub one_step : OneState → ℕ → Command → OneStep
 one_step s worker command =
-    if is_full_due (buffers_of s.cache) s.map command then record { reply = Full; state = s }
-    else placed_step s command (step s.map worker command)
+    if is_refused s command then record { reply = Full; state = s } else placed_step s command (step s.map worker command)
 
 -- how many workers `one` knows, and how many moves may be pending
 abbrev pub one_workers : ℕ
@@ -79,4 +86,4 @@ one_limit = 64
 
 -- before the first command, over so many slabs of so many buffers, with so many names
 abbrev pub one_start : ℕ → ℕ → ℕ → OneState
-one_start slabs chunks names = record { map = no_records names one_workers; cache = opening slabs chunks one_limit; addresses = [] }
+one_start slabs chunks names = record { map = no_records names one_workers; cache = opening (sizes_of slabs chunks one_limit); addresses = [] }

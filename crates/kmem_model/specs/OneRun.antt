@@ -1,12 +1,12 @@
 -- The output of `one`: all lines of a script in the order of the file on one thread, with settles between them (this project's own rule).
-use Rattle.std.specs.Prelude.{ℕ, zero, suc, ◌+◌, ◌*◌, ◌-◌, ◌%◌, ◌^◌, ◌==◌, ◌&&◌, Bool, true, false, nat_lt, List, [], ◌∷◌, ◌++◌, length, map, count_by, min, Option, Some, None, if◌then◌else◌}
+use Rattle.std.specs.Prelude.{ℕ, zero, suc, ◌+◌, ◌-◌, ◌%◌, ◌==◌, ◌&&◌, Bool, false, nat_lt, List, [], ◌∷◌, ◌++◌, length, map, Option, Some, None, if◌then◌else◌}
 use Rattle.std.specs.List.{flat_map, range_with_len}
 use Rattle.std.specs.Option.{option_map_or}
 use Rattle.kmem_text.specs.declared.command.Line.{Line}
 use Rattle.kmem_text.specs.declared.command.Reply.{Reply}
 use Rattle.kmem_text.specs.Grammar.{Plain}
 use Rattle.kmem_text.specs.Replies.{reply_text}
-use Rattle.kmem_model.specs.CacheState.{is_out, slab_count, free_count}
+use Rattle.kmem_model.specs.CacheState.{is_out}
 use Rattle.kmem_model.specs.declared.cache_entry.CacheEntry.TheVariants.{Free}
 use Rattle.kmem_model.specs.declared.cache_entry.Said.{Said}
 use Rattle.kmem_model.specs.declared.cache_entry.Said.TheVariants.{Yes, No, Later, DontNeed, DontKnow}
@@ -14,8 +14,10 @@ use Rattle.kmem_model.specs.Records.{RecordMap, Record, record_at, tag_count, li
 use Rattle.kmem_model.specs.Says.{addresses_after}
 use Rattle.kmem_model.specs.Settle.{Stage, EndedMove, Course}
 use Rattle.kmem_model.specs.SettleMeasure.{settled}
-use Rattle.kmem_model.specs.Report.{MoveCounts, Report, report_text}
-use Rattle.kmem_model.specs.History.{Entry}
+use Rattle.kmem_model.specs.SettleEntries.{moves_entries}
+use Rattle.kmem_model.specs.Report.{MoveCounts, Report, ends_in, report_on, report_text}
+use Rattle.kmem_model.specs.declared.record_entry.RecordEntry.{RecordEntry}
+use Rattle.kmem_model.specs.History.{commands_of}
 use Rattle.kmem_model.specs.One.{OneState, buffers_of, id_at, least_leftover, entered_by, one_step, one_start}
 
 -- A settle
@@ -83,11 +85,13 @@ abbrev pub lines_run : Option ℕ → ℕ → OneRun → List Line → OneRun
 lines_run every number run [] = run
 lines_run every number run (line ∷ lines) = lines_run every (number + 1) (line_run every number run line) lines
 
--- the history of these commands and their replies: a command's number in it counts its worker's commands, from 1
-abbrev pub history_of : Option ℕ → ℕ → OneRun → List Line → List Line → List Entry
+-- the history of these commands and their replies, behind those of earlier lines: each worker's commands are numbered from 1
+abbrev pub history_of : Option ℕ → ℕ → OneRun → List Line → List Line → List (ℕ × RecordEntry)
 history_of every number run before [] = []
-history_of every number run before (line ∷ lines) =
-    record { worker = line.worker; number = count_by (λ earlier. earlier.worker == line.worker) before + 1; command = line.command; reply = (one_step run.state line.worker line.command).reply }
+history_of every number run before (line ∷ lines) = (
+  line.worker - 1,
+  record { number = length (commands_of line.worker before) + 1; command = line.command; reply = (one_step run.state line.worker line.command).reply },
+)
     ∷ history_of every (number + 1) (line_run every number run line) (before ++ line ∷ []) lines
 
 -- The end
@@ -107,61 +111,13 @@ run_ended run = settled_run (record run { state = without_leftovers (buffers_of 
 
 -- The report
 
--- how many of the moves ended with such an answer; a count stands still at 2^64 - 1
-abbrev pub ended_with : (Said → Bool) → List EndedMove → ℕ
-ended_with is moves = min (count_by (λ move. is move.said) moves) (2 ^ 64 - 1)
-
--- the answers, one by one
-abbrev pub is_yes : Said → Bool
-is_yes Yes = true
-is_yes _ = false
-
-abbrev pub is_no : Said → Bool
-is_no No = true
-is_no _ = false
-
-abbrev pub is_later : Said → Bool
-is_later Later = true
-is_later _ = false
-
-abbrev pub is_dont_need : Said → Bool
-is_dont_need DontNeed = true
-is_dont_need _ = false
-
-abbrev pub is_dont_know : Said → Bool
-is_dont_know DontKnow = true
-is_dont_know _ = false
-
--- how these moves ended. None ends unasked, since each is ended as soon as it began
-abbrev pub counts_of : List EndedMove → MoveCounts
-counts_of moves =
-    record {
-      yes = ended_with is_yes moves;
-      no = ended_with is_no moves;
-      later = ended_with is_later moves;
-      dont_need = ended_with is_dont_need moves;
-      dont_know = ended_with is_dont_know moves;
-      gone = 0;
-    }
-
 -- no move
 abbrev pub no_moves : MoveCounts
-no_moves = record { yes = 0; no = 0; later = 0; dont_need = 0; dont_know = 0; gone = 0 }
+no_moves = ends_in []
 
 -- the report at the end: no mover was at work
 abbrev pub report_of : OneRun → Report
-report_of run =
-    record {
-      buffers = length run.state.cache.slabs * run.state.cache.chunks;
-      live = live_count run.state.map;
-      slabs = slab_count run.state.cache;
-      free = free_count run.state.cache;
-      scans = 0;
-      begun = 0;
-      moves = no_moves;
-      settled = counts_of run.moves;
-      states = run.state.cache.slabs;
-    }
+report_of run = report_on run.state.cache (live_count run.state.map) 0 0 no_moves (ends_in (moves_entries run.moves))
 
 -- The output
 
@@ -179,9 +135,9 @@ report_after None run = []
 report_after (Some every) run = report_text (report_of (run_ended run))
 
 -- what is written for these lines from such a moment on: the replies, and then the report
-abbrev pub run_text : Option ℕ → List (List ℕ) → OneRun → List Line → List ℕ
-run_text every names start lines = reply_lines names (replies every 1 start lines) ++ report_after every (lines_run every 1 start lines)
+abbrev pub one_text : Option ℕ → List (List ℕ) → OneRun → List Line → List ℕ
+one_text every names start lines = reply_lines names (replies every 1 start lines) ++ report_after every (lines_run every 1 start lines)
 
 -- the output of `one` for a script
 abbrev pub one_output : ℕ → ℕ → Option ℕ → Plain → List ℕ
-one_output slabs chunks every script = run_text every script.names (run_start slabs chunks (length script.names)) script.lines
+one_output slabs chunks every script = one_text every script.names (run_start slabs chunks (length script.names)) script.lines

@@ -1,28 +1,21 @@
 -- When a heap of objects in a cache's buffers stands for what `one` keeps (this project's own).
-use Rattle.std.specs.Prelude.{ℕ, ◌≡◌, Bool, true, false, Option, is_some, length}
+use Rattle.std.specs.Prelude.{ℕ, ◌≡◌, Bool, true, false, is_some, length}
 use Rattle.kmem_text.specs.declared.command.Command.{Command}
 use Rattle.kmem_text.specs.declared.command.Command.TheVariants.{Put, Del, Read, Write, Drop}
 use Rattle.kmem_text.specs.declared.command.Tag.{Tag}
 use Rattle.kmem_text.specs.declared.command.Reply.{Reply}
 use Rattle.kmem_model.specs.CacheState.{CacheState, is_out, has_pending}
-use Rattle.kmem_model.specs.CacheOrder.{least_below}
-use Rattle.kmem_model.specs.Records.{IsValid}
-use Rattle.kmem_model.specs.Heap.{HeapState, StandsFor, object_at, is_leftover}
+use Rattle.kmem_model.specs.Heap.{HeapState, StandsFor, object_at}
 use Rattle.kmem_model.specs.SettleWhole.{IsWhole}
 use Rattle.kmem_model.specs.One.{OneState, OneStep, buffers_of}
 
 -- the heap stands for the map at these addresses, and its objects lie in exactly the buffers that are out
 pub record OneStands (s : OneState) (h : HeapState) : Type 0 where
-  pub valid : IsValid s.map
   pub whole : IsWhole s.cache
   pub calm : has_pending s.cache ≡ false
   pub stands : StandsFor s.map s.addresses h
   pub size : length h.objects ≡ buffers_of s.cache
   pub places : (b : ℕ) → is_some (object_at h b) ≡ is_out s.cache b
-
--- the least address of a leftover
-abbrev pub least_left_in : HeapState → Option ℕ
-least_left_in h = least_below (length h.objects) (λ b. is_leftover (object_at h b))
 
 -- a command that leaves every object where it is
 abbrev pub leaves_objects : Command → Bool

@@ -2,6 +2,7 @@
 -- 1994 and of Bonwick and Adams 2001).
 use Rattle.std.specs.Prelude.{ℕ, ◌/◌, ◌%◌, Bool, true, false, ◌==◌, List, [], Option, None, is_some, replicate, slice_index_or, count_by, sum_by}
 use Rattle.std.specs.List.{list_any}
+use Rattle.kmem_model.specs.CacheState.{CacheSizes}
 use Rattle.kmem_model.specs.declared.cache_state.Standing.{Standing}
 use Rattle.kmem_model.specs.declared.cache_state.Standing.TheVariants.{Source}
 
@@ -147,11 +148,11 @@ abbrev pub rounds : Placing → ℕ → ℕ
 rounds p m = sum_by (λ shelf. count_by (is_round_of m) shelf.places) p.shelves
 
 -- the opening placing: every buffer at the source, nothing pending, and magazines held by anybody
-abbrev pub placing_start : ℕ → ℕ → ℕ → List Holder → Placing
-placing_start slabs chunks limit holders =
+abbrev pub placing_start : CacheSizes → List Holder → Placing
+placing_start sizes holders =
     record {
-      chunks = chunks;
-      shelves = replicate slabs (record { standing = Source; places = replicate chunks at_source; used = 0 });
+      chunks = sizes.chunks;
+      shelves = replicate sizes.slabs (record { standing = Source; places = replicate sizes.chunks at_source; used = 0 });
       holders = holders;
-      moves = replicate limit None;
+      moves = replicate sizes.limit None;
     }

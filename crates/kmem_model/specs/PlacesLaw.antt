@@ -1,6 +1,6 @@
 -- What every placing keeps, and what it has to do with the cache state (this project's own).
 use Rattle.std.specs.Prelude.{ℕ, ◌/◌, ◌%◌, ◌<◌, ◌≡◌, ◌≢◌, ◌↔◌, Bool, true, false, List, [], ◌∷◌, Option, Some, All, IfSome, count_by, map, option_map, option_and_then, slice_get}
-use Rattle.kmem_model.specs.CacheState.{SlabState, CacheState, opening}
+use Rattle.kmem_model.specs.CacheState.{SlabState, CacheState, CacheSizes, opening}
 use Rattle.kmem_model.specs.Places.{Place, at_source, on_slab, at_dest, Holder, OpenMove, Shelf, Placing, is_out_place, shelf_at, place_at, open_move_at, has_moves, placing_start}
 use Rattle.kmem_model.specs.PlacesEvent.{Event, World, event}
 use Rattle.kmem_model.specs.declared.cache_state.Standing.{Standing}
@@ -78,6 +78,5 @@ AlwaysSound buffers [] w = IsSound buffers w
 AlwaysSound buffers (e ∷ es) w = IsSound buffers w × IfSome (event w e) (AlwaysSound buffers es)
 
 -- the opening placing with the opening state
-abbrev pub world_start : ℕ → ℕ → ℕ → List Holder → World
-world_start slabs chunks limit holders =
-    record { placing = placing_start slabs chunks limit holders; state = opening slabs chunks limit }
+abbrev pub world_start : CacheSizes → List Holder → World
+world_start sizes holders = record { placing = placing_start sizes holders; state = opening sizes }

@@ -1,5 +1,6 @@
 -- A list with every kind of event, and the placing that it leaves (this project's own).
 use Rattle.std.specs.Prelude.{ℕ, true, List, [], ◌∷◌, ◌++◌, Option, Some, None, option_map, option_and_then}
+use Rattle.kmem_model.specs.CacheState.{sizes_of}
 use Rattle.kmem_model.specs.Places.{worker, at_client, on_slab, at_source, Holder, party, depot, Placing}
 use Rattle.kmem_model.specs.PlacesEvent.{Event, alloc, free, round_in, round_out, depot_swap, keep, leave, begin, answer, gone, end, cache_alone, World, event}
 use Rattle.kmem_model.specs.PlacesLaw.{world_start}
@@ -61,4 +62,4 @@ last_placing =
 
 -- the placing that all these events leave
 abbrev pub after_every_event : Option Placing
-after_every_event = option_map (λ w. w.placing) (world_after (world_start 2 2 2 two_magazines) every_event)
+after_every_event = option_map (λ w. w.placing) (world_after (world_start (sizes_of 2 2 2) two_magazines) every_event)

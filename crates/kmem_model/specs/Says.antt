@@ -1,9 +1,9 @@
 -- What a client of a cache answers when it is asked to move an object, and what the answer does to its heap
 -- (the five answers are those of the theory statement of kmem.c, when each comes is this project's own).
-use Rattle.std.specs.Prelude.{ℕ, ◌≡◌, Bool, nat_lt, ◌==◌, List, Option, Some, None, is_some, is_none, length, map, slice_set, if◌then◌else◌}
+use Rattle.std.specs.Prelude.{ℕ, ◌≡◌, Bool, nat_lt, ◌==◌, List, Option, Some, None, is_some, is_none, length, map, slice_index_or, if◌then◌else◌}
 use Rattle.kmem_model.specs.CacheState.{CacheState, is_out}
 use Rattle.kmem_model.specs.CacheOrder.{is_the}
-use Rattle.kmem_model.specs.Settle.{Stage}
+use Rattle.kmem_model.specs.Settle.{Stage, places_after}
 use Rattle.kmem_model.specs.Heap.{Object, HeapState, object_at}
 use Rattle.kmem_model.specs.declared.cache_entry.Said.{Said}
 use Rattle.kmem_model.specs.declared.cache_entry.Said.TheVariants.{Yes, No, Later, DontNeed, DontKnow}
@@ -34,12 +34,12 @@ relocated h old new =
     record {
       names = map (moved_name old new) h.names;
       tags = h.tags;
-      objects = slice_set (slice_set h.objects new (object_at h old)) old None;
+      objects = places_after None Yes old new h.objects;
     }
 
 -- the heap without the object at old
 abbrev pub without_object : HeapState → ℕ → HeapState
-without_object h old = record h { objects = slice_set h.objects old None }
+without_object h old = record h { objects = places_after None DontNeed old old h.objects }
 
 -- the heap after an answer about old, where new was offered
 abbrev pub heap_after : HeapState → ℕ → ℕ → Said → HeapState
@@ -57,11 +57,11 @@ addresses_after addresses old new Later = addresses
 addresses_after addresses old new DontNeed = addresses
 addresses_after addresses old new DontKnow = addresses
 
--- what a settle works on: a cache, and what the client answers about each of its buffers
-abbrev pub stage_in : CacheState → HeapState → Stage
-stage_in cache h = record { cache = cache; says = map answer_about h.objects }
+-- what a settle works on: a cache, and what the client answers about the object in each of its buffers
+abbrev pub stage_in : CacheState → List (Option Object) → Stage
+stage_in cache objects = record { cache = cache; says = map answer_about objects }
 
 -- the objects lie in exactly the buffers of the cache that are out
-pub record AreInBuffers (cache : CacheState) (h : HeapState) : Type 0 where
-  pub size : length h.objects ≡ length cache.asked
-  pub places : (b : ℕ) → is_some (object_at h b) ≡ is_out cache b
+pub record AreInBuffers (cache : CacheState) (objects : List (Option Object)) : Type 0 where
+  pub size : length objects ≡ length cache.asked
+  pub places : (b : ℕ) → is_some (slice_index_or objects b None) ≡ is_out cache b

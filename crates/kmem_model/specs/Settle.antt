@@ -48,13 +48,18 @@ next_move stage =
     (first_partial_free stage.cache.chunks stage.cache.slabs))
     (chosen stage.cache)
 
--- the answers after a move with this answer: YES takes the object to the new buffer, and after DONT_NEED it is gone
+-- what an answer makes of a list by buffers, in which `none` stands where there is no object: YES takes what stands at the old buffer to the
+-- new one, and after DONT_NEED it is gone
+abbrev pub places_after : {X : Type 0} → X → Said → ℕ → ℕ → List X → List X
+places_after none Yes from to xs = slice_set (slice_set xs to (slice_index_or xs from none)) from none
+places_after none No from to xs = xs
+places_after none Later from to xs = xs
+places_after none DontNeed from to xs = slice_set xs from none
+places_after none DontKnow from to xs = xs
+
+-- the answers after a move with this answer
 abbrev pub says_after : Said → ℕ → ℕ → List Said → List Said
-says_after Yes from to says = slice_set (slice_set says to (slice_index_or says from DontKnow)) from DontKnow
-says_after No from to says = says
-says_after Later from to says = says
-says_after DontNeed from to says = slice_set says from DontKnow
-says_after DontKnow from to says = says
+says_after said from to says = places_after DontKnow said from to says
 
 -- the cache after the move was begun with the number 0 and ended
 abbrev pub cache_after_move : CacheState → EndedMove → Option CacheState

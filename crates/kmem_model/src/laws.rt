@@ -3,9 +3,9 @@
 
 ghost use Rattle.std.specs.Prelude.{◌≡◌, ◌↔◌, ℕ, ◌*◌, ◌<◌, Bool, false, true, Some, None, List, option_map};
 ghost use Rattle.kmem_model.specs.declared.cache_entry.CacheEntry.{CacheEntry};
-ghost use Rattle.kmem_model.specs.CacheState.{SlabState, CacheState};
+ghost use Rattle.kmem_model.specs.CacheState.{CacheSizes, SlabState, CacheState};
 ghost use Rattle.kmem_model.specs.CacheOrder.{least_below, foremost, comes_before, IsLeastBelow, IsForemost, IsOrder};
-ghost use Rattle.kmem_model.specs.CacheHistory.{Reaches, IsLegal, MayAlloc, MayBegin, AtMostOneBegin, ExactlyOne};
+ghost use Rattle.kmem_model.specs.CacheHistory.{Reaches, MayEnter, MayAlloc, MayBegin, AtMostOneBegin, ExactlyOne};
 ghost use Rattle.kmem_model.specs.Places.{Holder};
 ghost use Rattle.kmem_model.specs.PlacesEvent.{Event};
 ghost use Rattle.kmem_model.specs.PlacesLaw.{AlwaysSound, world_start};
@@ -19,8 +19,8 @@ ghost use Rattle.kmem_model.specs.CacheRows.{by_one_pass, after, counts_after, i
 /// The events are any list, of any length; those after the first that can't happen count for nothing.
 /// Any limit of pending moves will do, and anybody may hold any number of magazines at first.
 pub fn law_places()
-    ensures always { (slabs chunks limit : ℕ) (holders : List Holder) (events : List Event) → 0 < chunks →
-        AlwaysSound (slabs * chunks) events (world_start slabs chunks limit holders) }
+    ensures always { (sizes : CacheSizes) (holders : List Holder) (events : List Event) → 0 < sizes.chunks →
+        AlwaysSound (sizes.slabs * sizes.chunks) events (world_start sizes holders) }
     // Each kind of event can happen.
     ensures possible { after_every_event ≡ Some last_placing }
 {}
@@ -28,17 +28,17 @@ pub fn law_places()
 /// In every state that a legal history reaches some buffer can be allocated, or the cache is full,
 /// and never both.
 pub fn law_alloc_or_full()
-    ensures { (slabs chunks limit : ℕ) (history : List (ℕ × CacheEntry)) (s : CacheState) → 0 < chunks →
-        Reaches slabs chunks limit history s → ExactlyOne (MayAlloc s) (IsLegal s Full) }
+    ensures { (sizes : CacheSizes) (history : List (ℕ × CacheEntry)) (s : CacheState) → 0 < sizes.chunks →
+        Reaches sizes history s → ExactlyOne (MayAlloc s) (MayEnter s Full) }
 {}
 
 /// In every state that a legal history reaches exactly one move can begin, or there is none to begin,
 /// and never both.
 pub fn law_begin_or_idle()
-    ensures one { (slabs chunks limit : ℕ) (history : List (ℕ × CacheEntry)) (s : CacheState) →
-        Reaches slabs chunks limit history s → ExactlyOne (MayBegin s) (IsLegal s Idle) }
-    ensures at_most_one { (slabs chunks limit : ℕ) (history : List (ℕ × CacheEntry)) (s : CacheState) →
-        Reaches slabs chunks limit history s → AtMostOneBegin s }
+    ensures one { (sizes : CacheSizes) (history : List (ℕ × CacheEntry)) (s : CacheState) →
+        Reaches sizes history s → ExactlyOne (MayBegin s) (MayEnter s Idle) }
+    ensures at_most_one { (sizes : CacheSizes) (history : List (ℕ × CacheEntry)) (s : CacheState) →
+        Reaches sizes history s → AtMostOneBegin s }
 {}
 
 /// What the searches of the definitions find, in the form in which ordered lists and bins are shown to

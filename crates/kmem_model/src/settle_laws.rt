@@ -1,16 +1,18 @@
 //! Laws of settle. Each is a function that does nothing: its contract is the law.
 #![tactic(auto)]
 
-ghost use Rattle.std.specs.Prelude.{ℕ, ◌≡◌, ◌+◌, ◌*◌, ◌<◌, true, false, List, Some, None, IsSome, replicate};
+ghost use Rattle.std.specs.Prelude.{ℕ, Bool, count_by, ◌≡◌, ◌+◌, ◌*◌, ◌<◌, true, false, List, Some, None, IsSome, replicate};
 ghost use Rattle.kmem_model.specs.declared.cache_entry.Said.{Said};
 ghost use Rattle.kmem_model.specs.declared.cache_entry.Said.TheVariants.{Yes, No, Later, DontKnow};
 ghost use Rattle.kmem_model.specs.declared.cache_entry.CacheEntry.{CacheEntry};
 ghost use Rattle.kmem_model.specs.declared.cache_entry.CacheEntry.TheVariants.{Scan, Begin, End, Forget};
-ghost use Rattle.kmem_model.specs.CacheState.{SlabState, CacheState, is_out, opening};
+ghost use Rattle.kmem_model.specs.CacheState.{CacheSizes, SlabState, CacheState, is_out, opening};
 ghost use Rattle.kmem_model.specs.CacheOrder.{is_idle};
 ghost use Rattle.kmem_model.specs.CacheEnter.{enter};
-ghost use Rattle.kmem_model.specs.CacheHistory.{IsLegal};
-ghost use Rattle.kmem_model.specs.Settle.{Stage, Course, said_at, moved, scanned, is_rest_marked, is_done, with_scan, settled_in};
+ghost use Rattle.kmem_model.specs.CacheHistory.{MayEnter, Reaches};
+ghost use Rattle.kmem_model.specs.SettleEntries.{moves_entries, AreEntriesOf};
+ghost use Rattle.kmem_model.specs.Report.{is_end_by, is_gone_entry};
+ghost use Rattle.kmem_model.specs.Settle.{Stage, EndedMove, Course, said_at, moved, scanned, is_rest_marked, is_done, with_scan, settled_in};
 ghost use Rattle.kmem_model.specs.SettleRows.{six_slabs, settle_moves, settle_slabs, movable_moves, movable_slabs, fixed_moves, fixed_slabs};
 ghost use Rattle.kmem_model.specs.SettleWhole.{IsWhole, IsWholeStage, IsSettled, AreAllMovable, HasFewestSlabs, is_known, enough};
 ghost use Rattle.kmem_model.specs.SettleMarks.{is_at_most_one_plain};
@@ -18,11 +20,13 @@ ghost use Rattle.kmem_model.specs.SettleMeasure.{IsInSettle, scanned_all, settle
 ghost use Rattle.kmem_model.specs.SettleTurns.{with_cache, course_at, course_moved, IsMoveOn, IsScanOn};
 
 /// A cache is whole at its opening, as a stage beside a client that knows no object. Every entry keeps it whole,
-/// also while moves are pending.
+/// also while moves are pending; so every state that a legal history reaches is whole.
 pub fn law_whole()
-    ensures opening { (slabs chunks limit : ℕ) → 0 < chunks → 0 < limit →
-        IsWholeStage (record { cache = opening slabs chunks limit; says = replicate (slabs * chunks) DontKnow }) }
+    ensures opening { (sizes : CacheSizes) → 0 < sizes.chunks → 0 < sizes.limit →
+        IsWholeStage (record { cache = opening sizes; says = replicate (sizes.slabs * sizes.chunks) DontKnow }) }
     ensures kept { (s t : CacheState) (entry : CacheEntry) → IsWhole s → enter s entry ≡ Some t → IsWhole t }
+    ensures reached { (sizes : CacheSizes) (history : List (ℕ × CacheEntry)) (s : CacheState) → 0 < sizes.chunks → 0 < sizes.limit →
+        Reaches sizes history s → IsWhole s }
 {}
 
 /// Settle ends: scans enough are made in each whole stage. Whatever number is allowed, what it leaves is whole
@@ -50,7 +54,7 @@ pub fn law_moves()
     // The old buffer stays out, the client knows the object there, and each of its answers may end the move.
     ensures begun { (stage : Stage) (j from to : ℕ) (cache : CacheState) → IsWholeStage stage →
         enter stage.cache (Begin j from to) ≡ Some cache →
-        (is_out cache from ≡ true) × (is_known (said_at stage from) ≡ true) × ((said : Said) → IsLegal cache (End j said)) }
+        (is_out cache from ≡ true) × (is_known (said_at stage from) ≡ true) × ((said : Said) → MayEnter cache (End j said)) }
     ensures ended { (course : Course) (j from to : ℕ) (begun ended : CacheState) → IsWholeStage course.stage →
         enter course.stage.cache (Begin j from to) ≡ Some begun →
         enter begun (End j (said_at course.stage from)) ≡ Some ended →
@@ -71,6 +75,16 @@ pub fn law_scans()
         scanned_all course ≡ Some (with_scan course.moves scan) }
 {}
 
+/// The entries of a settle: they lead from the cache before it to the cache after it, and end just its moves. And how many of the entries
+/// of moves end them so; none ends unasked.
+pub fn law_settle_entries()
+    ensures entries { (stage : Stage) (course : Course) → IsWholeStage stage → settled stage ≡ Some course →
+        (entries : List CacheEntry) × AreEntriesOf stage course entries }
+    ensures ends { (is : Said → Bool) (moves : List EndedMove) →
+        count_by (is_end_by is) (moves_entries moves) ≡ count_by (λ (move : EndedMove). is move.said) moves }
+    ensures none_gone { (moves : List EndedMove) → count_by is_gone_entry (moves_entries moves) ≡ 0 }
+{}
+
 /// Every partial slab after the first has a mark exactly where at most one has none, and where that one is the only partial slab.
 pub fn law_rest_marked()
     ensures { (slabs : List SlabState) → is_rest_marked slabs ≡ is_at_most_one_plain slabs }
@@ -89,7 +103,8 @@ pub fn law_settle_rows()
 #[cfg(test)]
 mod tests {
     use super::{
-        law_fewest, law_moves, law_rest_marked, law_scans, law_settle, law_settle_rows, law_whole,
+        law_fewest, law_moves, law_rest_marked, law_scans, law_settle, law_settle_entries,
+        law_settle_rows, law_whole,
     };
 
     #[test]
@@ -100,6 +115,7 @@ mod tests {
         law_moves();
         law_scans();
         law_rest_marked();
+        law_settle_entries();
         law_settle_rows();
     }
 }

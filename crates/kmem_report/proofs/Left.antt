@@ -27,19 +27,28 @@ none_left a b whole rest p none = subst (Appends a b) (sym (append-nil p.0) ∙ 
 pub next_slab : (slabs : List SlabState) (i : ℕ) → i < length slabs → slab_texts i (drop i slabs) ≡ slab_text i (slab_at slabs i) ++ slab_texts (i + 1) (drop (i + 1) slabs)
 next_slab slabs i small = ap (slab_texts i) (drop_more slabs i no_slab small)
 
--- The head, which stands at the front of a room, and the rest of the text
+-- A head, and the rest of the text behind it
 
 -- a front of the head was appended
-pub head_front : (a b : Option (List ℕ)) (room head rest : List ℕ) (n : ℕ) → take n room ≡ head → AppendsFront a b (take n room) → AppendsFront a b (head ++ rest)
-head_front a b room head rest n is p =
-    let q = subst (AppendsFront a b) is p in
-    (q.0, q.1 ++ rest, ap (λ xs. xs ++ rest) q.2 ∙ append_assoc q.0 q.1 rest, q.3)
+pub front_of_head : (a b : Option (List ℕ)) (head rest : List ℕ) → AppendsFront a b head → AppendsFront a b (head ++ rest)
+front_of_head a b head rest q = (q.0, q.1 ++ rest, ap (λ xs. xs ++ rest) q.2 ∙ append_assoc q.0 q.1 rest, q.3)
 
 -- the head was appended, and then the rest, where the call ended well
-pub then_whole : (a b c : Option (List ℕ)) (room head rest : List ℕ) (n : ℕ) (result : Result Unit Failed) → take n room ≡ head → Appends a b (take n room) → OnOk result (Appends b c rest) → OnOk result (Appends a c (head ++ rest))
-then_whole a b c room head rest n (Ok done) is p q = Appends-then a b c head rest (subst (Appends a b) is p) q
-then_whole a b c room head rest n (Err failed) is p q = tt
+pub whole_behind : (a b c : Option (List ℕ)) (head rest : List ℕ) (result : Result Unit Failed) → Appends a b head → OnOk result (Appends b c rest) → OnOk result (Appends a c (head ++ rest))
+whole_behind a b c head rest (Ok done) p q = Appends-then a b c head rest p q
+whole_behind a b c head rest (Err failed) p q = tt
 
 -- the head was appended, and then a front of the rest
+pub front_behind : (a b c : Option (List ℕ)) (head rest : List ℕ) → Appends a b head → AppendsFront b c rest → AppendsFront a c (head ++ rest)
+front_behind a b c head rest p q = AppendsFront-behind a b c head rest [] (head ++ rest) p (ap (λ xs. head ++ xs) (append-nil rest)) q
+
+-- The head stands at the front of a room
+
+pub head_front : (a b : Option (List ℕ)) (room head rest : List ℕ) (n : ℕ) → take n room ≡ head → AppendsFront a b (take n room) → AppendsFront a b (head ++ rest)
+head_front a b room head rest n is p = front_of_head a b head rest (subst (AppendsFront a b) is p)
+
+pub then_whole : (a b c : Option (List ℕ)) (room head rest : List ℕ) (n : ℕ) (result : Result Unit Failed) → take n room ≡ head → Appends a b (take n room) → OnOk result (Appends b c rest) → OnOk result (Appends a c (head ++ rest))
+then_whole a b c room head rest n result is p q = whole_behind a b c head rest result (subst (Appends a b) is p) q
+
 pub then_front : (a b c : Option (List ℕ)) (room head rest : List ℕ) (n : ℕ) → take n room ≡ head → Appends a b (take n room) → AppendsFront b c rest → AppendsFront a c (head ++ rest)
-then_front a b c room head rest n is p q = AppendsFront-behind a b c head rest [] (head ++ rest) (subst (Appends a b) is p) (ap (λ xs. head ++ xs) (append-nil rest)) q
+then_front a b c room head rest n is p q = front_behind a b c head rest (subst (Appends a b) is p) q

@@ -1,7 +1,7 @@
 -- What the report on a run is made of (this project's own).
-use Rattle.std.specs.Prelude.{ℕ, ◌*◌, length}
-use Rattle.kmem_model.specs.CacheState.{CacheState, slab_count, free_count}
-use Rattle.kmem_model.specs.Report.{MoveCounts, Report}
+use Rattle.std.specs.Prelude.{ℕ}
+use Rattle.kmem_model.specs.CacheState.{CacheState}
+use Rattle.kmem_model.specs.Report.{MoveCounts, Report, report_on}
 use Rattle.object_cache.specs.declared.tally.Tally.{Tally}
 
 -- how the moves of a tally ended
@@ -18,15 +18,4 @@ counts_of tally =
 
 -- what is reported of so many live records and scans, of these moves and those of all settles, and of a cache
 abbrev pub reported : ℕ → ℕ → Tally → Tally → CacheState → Report
-reported live scans moves settled s =
-    record {
-      buffers = length s.slabs * s.chunks;
-      live = live;
-      slabs = slab_count s;
-      free = free_count s;
-      scans = scans;
-      begun = moves.begun;
-      moves = counts_of moves;
-      settled = counts_of settled;
-      states = s.slabs;
-    }
+reported live scans moves settled s = report_on s live scans moves.begun (counts_of moves) (counts_of settled)

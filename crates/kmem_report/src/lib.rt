@@ -4,7 +4,7 @@
 mod lines;
 mod report;
 
-pub use report::write_report;
+pub use report::{write_part, write_report};
 
 #[cfg(test)]
 mod tests;

@@ -4,16 +4,16 @@ ghost use Rattle.std.specs.Prelude.{◌≡◌, ◌+◌, ◌*◌, ◌<◌, ◌≤
 ghost use Rattle.std.specs.Io.KnownBytes.{Appends};
 ghost use Rattle.kmem_io.specs.Streams.{CanRise, CountsFaults, AppendsFront};
 ghost use Rattle.kmem_model.specs.CacheState.{slab_at};
-ghost use Rattle.kmem_model.specs.Report.{head_text, slab_text, slab_texts, report_text};
+ghost use Rattle.kmem_model.specs.Report.{numbers_text, slab_text, slab_texts, part_text, report_text};
 ghost use Rattle.kmem_report.specs.Reported.{reported};
 
-use crate::lines::{put, put_moves_line, put_number_line, put_slab_line};
+use crate::lines::{put_moves_line, put_number_line, put_slab_line};
 use kmem_buf::Kind;
 use kmem_io::{Failed, Sink, write_all};
 use object_cache::{ObjectCache, Tally};
 
-/// Writes the report: the counts, how the moves ended and how those of all settles did, and each listed slab. Stops at the
-/// first fault. Linear in the slabs, and takes no memory.
+/// Writes the report: a line that opens it, the counts, how the moves ended and how those of all settles did, and each listed slab. Stops at
+/// the first fault. Linear in the slabs, and takes no memory.
 pub fn write_report<K: Kind, W: Sink>(
     slabs: u32,
     chunks: u32,
@@ -28,12 +28,39 @@ pub fn write_report<K: Kind, W: Sink>(
     requires chunks { chunks ≡ cache.now.state.chunks }
     requires buffers { slabs * chunks ≤ 65536 }
     requires out { CanRise (W.faults out.old) }
-    ensures whole { OnOk result (Appends (W.written out.old) (W.written out.new) (report_text (reported live scans moves.now settled.now cache.now.state))) }
-    ensures front { AppendsFront (W.written out.old) (W.written out.new) (report_text (reported live scans moves.now settled.now cache.now.state)) }
+    ensures whole { OnOk result (Appends (W.written out.old) (W.written out.new)
+        (report_text (reported live scans moves.now settled.now cache.now.state))) }
+    ensures front { AppendsFront (W.written out.old) (W.written out.new)
+        (report_text (reported live scans moves.now settled.now cache.now.state)) }
+    ensures counted { CountsFaults (W.faults out.old) (W.faults out.new) result }
+{
+    write_all(out, b"=== report\n")?;
+    write_part(slabs, chunks, live, scans, moves, settled, cache, out)
+}
+
+/// Writes what follows the line that opens the report: the counts, and each listed slab.
+pub fn write_part<K: Kind, W: Sink>(
+    slabs: u32,
+    chunks: u32,
+    live: u32,
+    scans: u32,
+    moves: &Tally,
+    settled: &Tally,
+    cache: &ObjectCache<K>,
+    out: &mut W,
+) -> Result<(), Failed>
+    requires slabs { slabs ≡ length cache.now.state.slabs }
+    requires chunks { chunks ≡ cache.now.state.chunks }
+    requires buffers { slabs * chunks ≤ 65536 }
+    requires out { CanRise (W.faults out.old) }
+    ensures whole { OnOk result (Appends (W.written out.old) (W.written out.new)
+        (part_text (reported live scans moves.now settled.now cache.now.state))) }
+    ensures front { AppendsFront (W.written out.old) (W.written out.new)
+        (part_text (reported live scans moves.now settled.now cache.now.state)) }
     ensures counted { CountsFaults (W.faults out.old) (W.faults out.new) result }
 {
     let mut room = [0u8; 640];
-    let at = put_head(
+    let at = put_numbers(
         &mut room,
         slabs * chunks,
         live,
@@ -46,8 +73,8 @@ pub fn write_report<K: Kind, W: Sink>(
     write_slabs(slabs, cache, out)
 }
 
-/// Puts all lines but those of the slabs at the front, and answers where they end.
-fn put_head<K: Kind>(
+/// Puts the lines of the numbers at the front, and answers where they end.
+fn put_numbers<K: Kind>(
     room: &mut [u8],
     buffers: u32,
     live: u32,
@@ -59,10 +86,9 @@ fn put_head<K: Kind>(
     requires room { 640 ≤ length room.old }
     requires buffers { buffers ≡ length cache.now.state.slabs * cache.now.state.chunks }
     ensures end { result ≤ 640 }
-    ensures text { take result room.new ≡ head_text (reported live scans moves.now settled.now cache.now.state) }
+    ensures text { take result room.new ≡ numbers_text (reported live scans moves.now settled.now cache.now.state) }
 {
-    let at = put(room, 0, b"=== report\n");
-    let at = put_number_line(room, at, b"buffers", u64::from(buffers));
+    let at = put_number_line(room, 0, b"buffers", u64::from(buffers));
     let at = put_number_line(room, at, b"live", u64::from(live));
     let at = put_number_line(room, at, b"slabs", u64::from(cache.slab_count()));
     let at = put_number_line(room, at, b"free", u64::from(cache.free_count()));

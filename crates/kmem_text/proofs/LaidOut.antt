@@ -16,7 +16,7 @@ use Rattle.kmem_text.specs.declared.spelling.LineFault.TheVariants as fault
 use Rattle.kmem_text.specs.declared.command.Tag.{Tag}
 use Rattle.kmem_text.specs.Texts.{is_within, is_name, is_value, is_name_byte, is_value_byte}
 use Rattle.kmem_text.specs.Numbers.{number_within, is_numeral}
-use Rattle.kmem_text.proofs.Tags.{both}
+use Rattle.kmem_text.proofs.Workers.{both}
 use Rattle.kmem_text.specs.Words.{◌>>=◌, or_fault, name_of, value_of, tag_of, one, two, command_of}
 use Rattle.kmem_text.specs.Grammar.{is_blank, tokens_in, tokens_of, lines_of, without_empty_last, holds_command, spelled_of, line_of, fault_or, first_bad, first_bad_of, found_in, spelled_lines, script_of, script_of_lines}
 use Rattle.kmem_text.specs.Layout.{HasNoLineFeed, as_lines, Spaced, Laid, AreBlanks, IsToken, IsSpaced, IsLaid, laid_text, laid_tokens, tag_token, command_tokens, IsGoodCommand, IsGoodLine, laid_line, written}
@@ -260,11 +260,11 @@ name_read name h = ap (λ b. cond b (Ok name) (Err Name)) h
 value_read : (value : List ℕ) → is_value value ≡ true → value_of value ≡ Ok value
 value_read value h = ap (λ b. cond b (Ok value) (Err Value)) h
 
-tag_read : (tag : Tag) → tag.0 < 8 → tag_of (tag_token tag) ≡ Ok tag
+tag_read : (tag : Tag) → tag < 8 → tag_of (tag_token tag) ≡ Ok tag
 tag_read tag small =
-    let digit : is_within 48 55 (48 + tag.0) ≡ true = grind (arith, nat_tests, small) in
-    let back : 48 + tag.0 - 48 ≡ tag.0 = omega arith in
-    ap (λ b. cond b (Ok (record { 0 = 48 + tag.0 - 48 })) (Err fault.Tag)) digit ∙ (λ i. Ok (record { 0 = back i }))
+    let digit : is_within 48 55 (48 + tag) ≡ true = grind (arith, nat_tests, small) in
+    let back : 48 + tag - 48 ≡ tag = omega arith in
+    ap (λ b. cond b (Ok (48 + tag - 48)) (Err fault.Tag)) digit ∙ ap Ok back
 
 only_read : {A : Type 0} (read : List ℕ → Result A LineFault) (make : A → Spelled) (token : List ℕ) (x : A) → read token ≡ Ok x → one read make (token ∷ []) ≡ Ok (make x)
 only_read read make token x is = ap (λ r. r >>= λ x. Ok (make x)) is
@@ -325,7 +325,7 @@ word_token word h some =
 
 tag_laid : (tag : Tag) → IsToken (tag_token tag)
 tag_laid tag =
-    let above : nat_lt 32 (48 + tag.0) ≡ true = grind (arith, nat_tests) in
+    let above : nat_lt 32 (48 + tag) ≡ true = grind (arith, nat_tests) in
     (omega arith, (above, tt))
 
 command_laid : (command : Spelled) → IsGoodCommand command → AllByRecursion IsToken (command_tokens command)

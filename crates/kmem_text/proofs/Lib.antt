@@ -3,4 +3,5 @@ pub mod Places
 pub mod Digits
 pub mod Parts
 pub mod LaidOut
-pub mod Tags
+pub mod Workers
+pub mod Used

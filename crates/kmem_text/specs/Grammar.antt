@@ -8,6 +8,7 @@ use Rattle.std.specs.BTreeSet.{insert_key}
 use Rattle.std.specs.BTreeMap.{is_at}
 use Rattle.kmem_text.specs.Numbers.{number_within}
 use Rattle.kmem_text.specs.Words.{◌>>=◌, or_fault, command_of}
+use Rattle.kmem_text.specs.declared.bytes.TheConstants.{TAB, LINE_FEED, SPACE, COMMENT_SIGN}
 use Rattle.kmem_text.specs.declared.command.NameId.{NameId}
 use Rattle.kmem_text.specs.declared.command.Command.{Command}
 use Rattle.kmem_text.specs.declared.command.Command.TheVariants as command
@@ -20,7 +21,7 @@ use Rattle.kmem_text.specs.declared.spelling.SpelledLine.{SpelledLine}
 
 -- a space or a tab
 abbrev pub is_blank : ℕ → Bool
-is_blank byte = byte == 32 || byte == 9
+is_blank byte = byte == SPACE || byte == TAB
 
 -- the parts of a line between blanks, but for empty ones
 abbrev pub tokens_in : List ℕ → List (List ℕ)
@@ -41,7 +42,7 @@ line_of workers (worker ∷ tokens) = do
 -- a line whose first token begins with # is a comment, and one without tokens is blank: they hold no command
 abbrev pub holds_command : List (List ℕ) → Bool
 holds_command [] = false
-holds_command (token ∷ tokens) = not (slice_index token 0 == 35)
+holds_command (token ∷ tokens) = not (slice_index token 0 == COMMENT_SIGN)
 
 -- what the tokens of a line spell, if they hold a command
 abbrev pub spelled_of : ℕ → List (List ℕ) → Result (Option SpelledLine) LineFault
@@ -55,7 +56,7 @@ without_empty_last (line ∷ next ∷ more) = line ∷ without_empty_last (next 
 
 -- the lines of an input
 abbrev pub lines_of : List ℕ → List (List ℕ)
-lines_of bytes = without_empty_last (slice_split (λ byte. byte == 10) bytes)
+lines_of bytes = without_empty_last (slice_split (λ byte. byte == LINE_FEED) bytes)
 
 -- this line's fault, or the first of the others
 abbrev pub fault_or : ℕ → Result (Option SpelledLine) LineFault → Option (ℕ × LineFault) → Option (ℕ × LineFault)
@@ -150,8 +151,8 @@ IsWithinNames names _ = Unit {0}
 
 -- the tag of the command is one of 0 to 7
 abbrev pub IsWithinTags : Command → Type 0
-IsWithinTags (command.Hold t n) = t.0 < 8
-IsWithinTags (command.Read t) = t.0 < 8
-IsWithinTags (command.Write t v) = t.0 < 8
-IsWithinTags (command.Drop t) = t.0 < 8
+IsWithinTags (command.Hold t n) = t < 8
+IsWithinTags (command.Read t) = t < 8
+IsWithinTags (command.Write t v) = t < 8
+IsWithinTags (command.Drop t) = t < 8
 IsWithinTags _ = Unit {0}

@@ -5,6 +5,7 @@ use Rattle.std.specs.List.{flat_map, AllByRecursion}
 use Rattle.std.specs.Fmt.{decimal}
 use Rattle.kmem_text.specs.Texts.{is_name, is_value}
 use Rattle.kmem_text.specs.Grammar.{is_blank}
+use Rattle.kmem_text.specs.declared.bytes.TheConstants.{LINE_FEED, CARRIAGE_RETURN, SPACE}
 use Rattle.kmem_text.specs.declared.command.Tag.{Tag}
 use Rattle.kmem_text.specs.declared.spelling.Spelled.{Spelled}
 use Rattle.kmem_text.specs.declared.spelling.Spelled.TheVariants as spelled
@@ -12,11 +13,11 @@ use Rattle.kmem_text.specs.declared.spelling.SpelledLine.{SpelledLine}
 
 -- no byte of the line is a line feed
 abbrev pub HasNoLineFeed : List ℕ → Type 0
-HasNoLineFeed line = AllByRecursion (λ byte. (byte == 10) ≡ false) line
+HasNoLineFeed line = AllByRecursion (λ byte. (byte == LINE_FEED) ≡ false) line
 
 -- these lines, each with a line feed behind it
 abbrev pub as_lines : List (List ℕ) → List ℕ
-as_lines lines = flat_map (λ line. line ++ 10 ∷ []) lines
+as_lines lines = flat_map (λ line. line ++ LINE_FEED ∷ []) lines
 
 -- a token with the blanks before it
 pub record Spaced : Type 0 where
@@ -37,7 +38,7 @@ AreBlanks bytes = AllByRecursion (λ byte. is_blank byte ≡ true) bytes
 
 -- one byte or more, each above a space, as names, values, words and numbers are
 abbrev pub IsToken : List ℕ → Type 0
-IsToken bytes = (0 < length bytes) × AllByRecursion (λ byte. nat_lt 32 byte ≡ true) bytes
+IsToken bytes = (0 < length bytes) × AllByRecursion (λ byte. nat_lt SPACE byte ≡ true) bytes
 
 -- a token behind one blank or more
 abbrev pub IsSpaced : Spaced → Type 0
@@ -52,7 +53,7 @@ pub record IsLaid (line : Laid) : Type 0 where
 
 -- the bytes of the line
 abbrev pub laid_text : Laid → List ℕ
-laid_text line = line.lead ++ (line.first ++ (flat_map (λ part. part.blanks ++ part.token) line.further ++ (line.end ++ (if line.returns then 13 ∷ [] else []))))
+laid_text line = line.lead ++ (line.first ++ (flat_map (λ part. part.blanks ++ part.token) line.further ++ (line.end ++ (if line.returns then CARRIAGE_RETURN ∷ [] else []))))
 
 -- its tokens
 abbrev pub laid_tokens : Laid → List (List ℕ)
@@ -60,7 +61,7 @@ laid_tokens line = line.first ∷ map (λ part. part.token) line.further
 
 -- the digit of a tag
 abbrev pub tag_token : Tag → List ℕ
-tag_token tag = (48 + tag.0) ∷ []
+tag_token tag = (48 + tag) ∷ []
 
 -- the tokens of a command
 abbrev pub command_tokens : Spelled → List (List ℕ)
@@ -87,10 +88,10 @@ IsGoodCommand spelled.First = Unit {0}
 IsGoodCommand (spelled.Next name) = is_name name ≡ true
 IsGoodCommand spelled.Count = Unit {0}
 IsGoodCommand (spelled.Link name other) = (is_name name ≡ true) × (is_name other ≡ true)
-IsGoodCommand (spelled.Hold tag name) = (tag.0 < 8) × (is_name name ≡ true)
-IsGoodCommand (spelled.Read tag) = tag.0 < 8
-IsGoodCommand (spelled.Write tag value) = (tag.0 < 8) × (is_value value ≡ true)
-IsGoodCommand (spelled.Drop tag) = tag.0 < 8
+IsGoodCommand (spelled.Hold tag name) = (tag < 8) × (is_name name ≡ true)
+IsGoodCommand (spelled.Read tag) = tag < 8
+IsGoodCommand (spelled.Write tag value) = (tag < 8) × (is_value value ≡ true)
+IsGoodCommand (spelled.Drop tag) = tag < 8
 IsGoodCommand (spelled.Fix name) = is_name name ≡ true
 IsGoodCommand (spelled.Loose name) = is_name name ≡ true
 
@@ -105,7 +106,7 @@ abbrev pub laid_line : SpelledLine → Laid
 laid_line line = record {
   lead = [];
   first = decimal line.worker;
-  further = map (λ token. record { blanks = 32 ∷ []; token = token }) (command_tokens line.command);
+  further = map (λ token. record { blanks = SPACE ∷ []; token = token }) (command_tokens line.command);
   end = [];
   returns = false;
 }

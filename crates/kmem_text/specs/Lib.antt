@@ -7,3 +7,4 @@ pub mod Replies
 pub mod Faults
 pub mod Tokens
 pub mod Layout
+pub mod Scripts

@@ -31,7 +31,7 @@ value_of token = if is_value token then Ok token else Err fault.Value
 
 -- a token that is a tag: one digit from 0 to 7
 abbrev pub tag_of : List ℕ → Result Tag LineFault
-tag_of (digit ∷ []) = if is_within 48 55 digit then Ok (record { 0 = digit - 48 }) else Err fault.Tag
+tag_of (digit ∷ []) = if is_within 48 55 digit then Ok (digit - 48) else Err fault.Tag
 tag_of _ = Err fault.Tag
 
 -- no token more

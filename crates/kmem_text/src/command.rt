@@ -1,16 +1,49 @@
 //! Record commands and their replies, and a script of commands.
 
+ghost use Rattle.std.specs.Prelude.{◌≡◌, ◌<◌};
+
 use super::{Name, Value};
+use std::marker::Model;
 
 /// The place of a name in a script's list of names, which ascends, so that the order of places is the order of names.
-#[derive(Clone, Copy)]
+#[derive(Clone, Copy, Debug, PartialEq, Eq)]
 pub struct NameId(pub u32);
 
 /// One of a worker's tags, 0 to 7.
-#[derive(Clone, Copy)]
-pub struct Tag(pub u8);
+#[derive(Clone, Copy, Debug, PartialEq, Eq)]
+pub struct Tag {
+    number: u8,
+}
 
-#[derive(Clone, Copy)]
+impl Model for Tag {
+    ghost use Rattle.std.specs.Prelude.{ℕ, ◌<◌};
+
+    ghost Value = { ℕ };
+
+    ghost view = { λ tag. tag.number };
+
+    ghost invariant = { λ tag. tag.number < 8 };
+
+    ghost inverse = { λ number. record { number = number } };
+}
+
+impl Tag {
+    pub fn new(number: u8) -> Tag
+        requires { number < 8 }
+        ensures { result ≡ number }
+    {
+        Tag { number }
+    }
+
+    pub fn number(self) -> u8
+        ensures is { result ≡ self }
+        ensures small { result < 8 }
+    {
+        self.number
+    }
+}
+
+#[derive(Clone, Copy, Debug, PartialEq, Eq)]
 pub enum Command {
     /// Gives a name a value: a new record's, or its own record's in place of the old one.
     Put(NameId, Value),
@@ -40,7 +73,7 @@ pub enum Command {
     Loose(NameId),
 }
 
-#[derive(Clone, Copy)]
+#[derive(Clone, Copy, Debug, PartialEq, Eq)]
 pub enum Reply {
     /// The name has a new record.
     New,
@@ -71,7 +104,7 @@ pub enum Reply {
 }
 
 /// One command of a worker. Workers are counted from 1.
-#[derive(Clone, Copy)]
+#[derive(Clone, Copy, Debug, PartialEq, Eq)]
 pub struct Line {
     pub worker: u32,
     pub command: Command,

@@ -2,7 +2,8 @@
 
 ghost use Rattle.std.specs.Prelude.{◌≡◌, ◌↔◌, ◌<◌, ◌^◌, ◌++◌, ◌∷◌, ℕ, List, false, None};
 ghost use Rattle.std.specs.List.{AllByRecursion};
-ghost use Rattle.kmem_text.specs.Grammar.{lines_of, tokens_of, holds_command, spelled_lines, first_bad, first_bad_of, script_of, script_of_lines};
+ghost use Rattle.kmem_text.specs.Grammar.{lines_of, tokens_of, holds_command, spelled_lines, first_bad, first_bad_of};
+ghost use Rattle.kmem_text.specs.Grammar.{script_of, script_of_lines};
 ghost use Rattle.kmem_text.specs.Layout.{HasNoLineFeed, as_lines, Laid, IsLaid, laid_text, laid_tokens, IsGoodLine, written};
 ghost use Rattle.kmem_text.specs.declared.spelling.SpelledLine.{SpelledLine};
 

@@ -1,6 +1,8 @@
 //! Texts: names, values, commands and replies, and how a script and a reply are spelled.
 #![tactic(auto)]
 
+mod build;
+mod bytes;
 mod command;
 mod laws;
 mod lines;
@@ -12,12 +14,13 @@ mod text;
 mod tokens;
 mod words;
 
+pub use bytes::{CARRIAGE_RETURN, COMMENT_SIGN, LINE_FEED, SPACE, TAB};
 pub use command::{Command, Line, NameId, Reply, Script, Tag};
 pub use laws::{law_layout, law_written};
 pub use number::number_within;
 pub use reply::write_reply;
 pub use script::{ScriptError, read_script};
-pub use spelling::LineFault;
+pub use spelling::{LineFault, Spelled, SpelledLine};
 pub use text::{Name, Value};
 
 #[cfg(test)]

@@ -5,9 +5,9 @@ ghost use Rattle.std.specs.List.{slice_split};
 ghost use Rattle.kmem_text.specs.Grammar.{lines_of, spelled_lines, first_bad_of};
 ghost use Rattle.kmem_text.specs.Faults.{Explains};
 
-use super::ScriptError;
 use super::spelling::{Spelled, SpelledLine, spelled_of};
 use super::tokens::{MOST_TOKENS, fill_tokens};
+use super::{LINE_FEED, ScriptError};
 use std::alloc::{AllocError, Global};
 
 /// The most commands that a script may have.
@@ -23,7 +23,8 @@ pub fn spelled_lines(
     ensures lines { IfOk result (λ lines. lines.items ≡ spelled_lines workers (lines_of bytes.now)) }
     ensures good { OnOk result (first_bad_of workers bytes.now ≡ None) }
     ensures few { IfOk result (λ lines. length lines.items ≤ 100000) }
-    ensures error { IfErr result (λ error. Explains error (first_bad_of workers bytes.now) (length (spelled_lines workers (lines_of bytes.now)))) }
+    ensures error { IfErr result (λ error. Explains error (first_bad_of workers bytes.now)
+        (length (spelled_lines workers (lines_of bytes.now)))) }
 {
     let mut lines = Vec::new(alloc);
     let mut tokens = Vec::with_capacity(alloc, MOST_TOKENS)?;
@@ -79,7 +80,7 @@ fn cut_line(bytes: &[u8]) -> (&[u8], &[u8])
 
 /// Where the first line feed stands.
 fn line_feed(bytes: &[u8]) -> Option<usize>
-    ensures { result ≡ position (λ byte. byte == 10) bytes.now }
+    ensures { result ≡ position (λ byte. byte == LINE_FEED) bytes.now }
 {
-    bytes.iter().position(|byte| *byte == b'\n')
+    bytes.iter().position(|byte| *byte == LINE_FEED)
 }

@@ -60,7 +60,8 @@ fn put_two(out: &mut [u8], word: &[u8], piece: &[u8]) -> usize
 fn put_four(out: &mut [u8], word: &[u8], piece: &[u8], next: &[u8], last: &[u8]) -> usize
     requires { length word.now + length piece.now + length next.now + length last.now ≤ length out.old }
     ensures len { result ≡ length (word.now ++ piece.now ++ next.now ++ last.now) }
-    ensures text { out.new ≡ (word.now ++ piece.now ++ next.now ++ last.now) ++ drop (length (word.now ++ piece.now ++ next.now ++ last.now)) out.old }
+    ensures text { out.new ≡ (word.now ++ piece.now ++ next.now ++ last.now)
+        ++ drop (length (word.now ++ piece.now ++ next.now ++ last.now)) out.old }
 {
     let at = put_two(out, word, piece);
     at + put_two(&mut out[at..], next, last)

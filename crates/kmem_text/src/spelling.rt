@@ -5,7 +5,7 @@ ghost use Rattle.kmem_text.specs.Grammar.{spelled_of, holds_command, line_of};
 ghost use Rattle.kmem_text.specs.Words.{command_of};
 
 use super::words::{CommandWord, further_of, word_of};
-use super::{Name, Tag, Value, number_within};
+use super::{COMMENT_SIGN, Name, Tag, Value, number_within};
 
 /// The first check of a line that fails, in the order of the checks.
 #[derive(Clone, Copy, Debug, PartialEq, Eq)]
@@ -19,7 +19,7 @@ pub enum LineFault {
 }
 
 /// A command whose names are spelled out.
-#[derive(Clone, Copy)]
+#[derive(Clone, Copy, Debug, PartialEq, Eq)]
 pub enum Spelled {
     Put(Name, Value),
     Get(Name),
@@ -37,7 +37,7 @@ pub enum Spelled {
 }
 
 /// A line whose names are spelled out.
-#[derive(Clone, Copy)]
+#[derive(Clone, Copy, Debug, PartialEq, Eq)]
 pub struct SpelledLine {
     pub worker: u32,
     pub command: Spelled,
@@ -60,7 +60,7 @@ fn holds_command(tokens: &[&[u8]]) -> bool
 {
     match tokens {
         [] => false,
-        [token, ..] => !token.starts_with(b"#"),
+        [token, ..] => !token.starts_with(&[COMMENT_SIGN]),
     }
 }
 

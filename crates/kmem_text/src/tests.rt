@@ -1,5 +1,6 @@
 use crate::{
-    Command, LineFault, NameId, Reply, Script, ScriptError, Value, read_script, write_reply,
+    Command, Line, LineFault, Name, NameId, Reply, Script, ScriptError, Spelled, SpelledLine, Tag,
+    Value, read_script, write_reply,
 };
 use std::alloc::Global;
 use std::test::Fail;
@@ -39,10 +40,10 @@ fn parts(command: &Command) -> (&'static str, usize, usize) {
         Command::Next(name) => ("next", name.0 as usize, 0),
         Command::Count => ("count", 0, 0),
         Command::Link(name, other) => ("link", name.0 as usize, other.0 as usize),
-        Command::Hold(tag, name) => ("hold", tag.0 as usize, name.0 as usize),
-        Command::Read(tag) => ("read", tag.0 as usize, 0),
-        Command::Write(tag, value) => ("write", tag.0 as usize, value.as_bytes().len()),
-        Command::Drop(tag) => ("drop", tag.0 as usize, 0),
+        Command::Hold(tag, name) => ("hold", usize::from(tag.number()), name.0 as usize),
+        Command::Read(tag) => ("read", usize::from(tag.number()), 0),
+        Command::Write(tag, value) => ("write", usize::from(tag.number()), value.as_bytes().len()),
+        Command::Drop(tag) => ("drop", usize::from(tag.number()), 0),
         Command::Fix(name) => ("fix", name.0 as usize, 0),
         Command::Loose(name) => ("loose", name.0 as usize, 0),
     }
@@ -256,5 +257,35 @@ fn texts_of_replies(rt: HostRuntime) -> Result<(), Fail> {
     let len = write_reply(&script, &Reply::At(NameId(0), value), &mut out);
     assert!(rt; len < out.len());
     assert_eq!(rt; &out[..len], b"at a x~!".as_slice());
+    Ok(())
+}
+
+#[test]
+fn lines_make_a_script(rt: HostRuntime) -> Result<(), Fail> {
+    let a = Name::from_bytes(b"a").ok_or("a name")?;
+    let b = Name::from_bytes(b"b").ok_or("a name")?;
+    let x = Value::from_bytes(b"x").ok_or("a value")?;
+    let lines = [
+        SpelledLine {
+            worker: 2,
+            command: Spelled::Link(b, a),
+        },
+        SpelledLine {
+            worker: 1,
+            command: Spelled::Write(Tag::new(7), x),
+        },
+    ];
+    let script = Script::from_lines(rt.alloc(), &lines)?;
+    assert_eq!(rt; script.names.as_slice(), [a, b].as_slice());
+    let link = Line {
+        worker: 2,
+        command: Command::Link(NameId(1), NameId(0)),
+    };
+    let write = Line {
+        worker: 1,
+        command: Command::Write(Tag::new(7), x),
+    };
+    assert_eq!(rt; script.lines.as_slice(), [link, write].as_slice());
+    assert_ne!(rt; link, write);
     Ok(())
 }

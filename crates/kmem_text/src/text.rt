@@ -14,7 +14,7 @@ use std::cmp::Ordering;
 use std::marker::Model;
 
 /// A name: 1 to 32 bytes of `a` to `z`, `0` to `9`, `_`, `-` and `.`. Names are ordered by their bytes.
-#[derive(Copy)]
+#[derive(Copy, Debug)]
 pub struct Name {
     bytes: [u8; 32],
     len: u8,
@@ -33,7 +33,8 @@ impl Model for Name {
 
     ghost inverse = { λ text. record { bytes = text ++ replicate (32 - length text) 0; len = length text } };
 
-    ghost inverse_ok = { λ n h. λ i. record { bytes = (unpadded is_name 32 n.bytes n.len h).0 i; len = (unpadded is_name 32 n.bytes n.len h).1 i } };
+    ghost inverse_ok = { λ n h. λ i.
+        record { bytes = (unpadded is_name 32 n.bytes n.len h).0 i; len = (unpadded is_name 32 n.bytes n.len h).1 i } };
 }
 
 impl Clone for Name {
@@ -127,7 +128,7 @@ fn is_name_byte(byte: u8) -> bool
 }
 
 /// A value: 1 to 64 bytes from 0x21 to 0x7E.
-#[derive(Copy)]
+#[derive(Copy, Debug)]
 pub struct Value {
     bytes: [u8; 64],
     len: u8,
@@ -146,7 +147,8 @@ impl Model for Value {
 
     ghost inverse = { λ text. record { bytes = text ++ replicate (64 - length text) 0; len = length text } };
 
-    ghost inverse_ok = { λ n h. λ i. record { bytes = (unpadded is_value 64 n.bytes n.len h).0 i; len = (unpadded is_value 64 n.bytes n.len h).1 i } };
+    ghost inverse_ok = { λ n h. λ i.
+        record { bytes = (unpadded is_value 64 n.bytes n.len h).0 i; len = (unpadded is_value 64 n.bytes n.len h).1 i } };
 }
 
 impl Clone for Value {
@@ -157,6 +159,20 @@ impl Clone for Value {
     fn clone(&self) -> Result<Value, AllocError> {
         Ok(*self)
     }
+}
+
+impl PartialEq for Value {
+    ghost eq = { pointwise ◌==◌ };
+
+    ghost laws = { Prim.search (comparing, rules) };
+
+    fn eq(&self, other: &Value) -> bool {
+        self.as_bytes() == other.as_bytes()
+    }
+}
+
+impl Eq for Value {
+    ghost laws = { Prim.search (comparing, rules) };
 }
 
 impl Value {

@@ -6,6 +6,8 @@ ghost use Rattle.kmem_text.specs.Grammar.{is_blank, tokens_in, tokens_of};
 ghost use Rattle.kmem_text.specs.Tokens.{Cuts};
 ghost use Rattle.std.specs.List.{position_or_len};
 
+use super::{CARRIAGE_RETURN, SPACE, TAB};
+
 /// No line that is good has more tokens than four, so the fifth is enough to tell that there are too many.
 pub const MOST_TOKENS: usize = 5;
 
@@ -32,7 +34,7 @@ fn without_return(line: &[u8]) -> &[u8]
     ensures { result.now ≡ strip_carriage_return line.now }
 {
     match line {
-        [front @ .., b'\r'] => front,
+        [front @ .., CARRIAGE_RETURN] => front,
         _ => line,
     }
 }
@@ -80,5 +82,5 @@ fn blank_at(bytes: &[u8]) -> Option<usize>
 fn is_blank(byte: u8) -> bool
     ensures { result ≡ is_blank byte }
 {
-    byte == b' ' || byte == b'\t'
+    byte == SPACE || byte == TAB
 }

@@ -9,7 +9,7 @@ use super::spelling::{LineFault, Spelled};
 use super::{Name, Tag, Value};
 
 /// The first word of a command.
-#[derive(Clone, Copy)]
+#[derive(Clone, Copy, Debug, PartialEq, Eq)]
 pub enum CommandWord {
     Put,
     Get,
@@ -170,7 +170,7 @@ fn tag_of(token: &[u8]) -> Result<Tag, LineFault>
     ensures { result ≡ tag_of token.now }
 {
     match token {
-        [digit] if is_tag_digit(*digit) => Ok(Tag(*digit - b'0')),
+        [digit] if is_tag_digit(*digit) => Ok(Tag::new(*digit - b'0')),
         _ => Err(LineFault::Tag),
     }
 }

@@ -4,17 +4,15 @@ use Rattle.std.specs.Bool.{then_some}
 use Rattle.std.specs.Option.{IsSome}
 use Rattle.std.proofs.lemmas.Bool.{cases_eq}
 use Rattle.std.proofs.lemmas.List.{length-map, get_or-set_same, get_or-set_other, get_or_default, length-append}
-use Rattle.kmem_text.specs.Grammar.{IsWithinNames}
 use Rattle.kmem_text.specs.declared.command.Command.{Command}
 use Rattle.kmem_text.specs.declared.command.Reply.{Reply}
 use Rattle.kmem_model.specs.Records.{held_at}
-use Rattle.kmem_model.specs.RecordStep.{IsInRange}
-use Rattle.kmem_model.specs.Heap.{HeapState, address_in, address_of, hold_at, object_at, places_of, is_leftover}
+use Rattle.kmem_model.specs.Heap.{least_left_in, HeapState, address_in, address_of, hold_at, object_at, places_of, is_leftover}
 use Rattle.kmem_model.specs.CacheState.{CacheState}
 use Rattle.kmem_model.specs.One.{OneState, one_step, one_workers}
 use Rattle.kmem_model.specs.OneStands.{OneStands, OneEnds}
 use Rattle.kmem_buf.specs.Homes.{Homes}
-use Rattle.record_heap.specs.View.{HeapView, HoldState, IsHoldAt, IsFrame, least_leftover}
+use Rattle.record_heap.specs.View.{HeapView, HoldState, IsHoldAt, IsFrame}
 use Rattle.kmem_model.specs.CacheOrder.{least_below}
 use Rattle.std.specs.Option.{option_or}
 use Rattle.std.proofs.lemmas.List.Sums.{sum_by-set}
@@ -35,17 +33,7 @@ get_or-mapped f (x ∷ xs) (suc i) = get_or-mapped f xs i
 
 -- a tag is in use in the heap exactly where it is in the map
 pub in_use : (s : OneState) (h : HeapState) (place : ℕ) → OneStands s h → is_some (hold_at h place) ≡ is_some (held_at s.map place)
-in_use s h place stands = ap (λ xs. is_some (get_or xs place None)) stands.stands.tags ∙ get_or-mapped (address_in s.addresses) s.map.tags place
-
--- the command is in the range of the map
-pub range_of : (s : OneState) (b : BenchView) (worker : ℕ) (command : Command) → StandsAt s b → length b.heap.heap.tags ≡ 8 * one_workers → IsOfBench b worker command → IsInRange s.map worker command
-range_of s b worker command at size of =
-    record {
-      names = subst (λ n. IsWithinNames n command) (ap length at.stands.stands.names ∙ length-map s.map.names (option_map (address_in s.addresses))) of.names;
-      tags = of.tags;
-      first = of.known.0;
-      last = omega (arith, of.known.1, size, ap length at.stands.stands.tags, length-map s.map.tags (option_map (address_in s.addresses)));
-    }
+in_use s h place stands = ap (λ xs. is_some (get_or xs place None)) stands.stands.paired.tags ∙ get_or-mapped (address_in s.addresses) s.map.tags place
 
 -- the bench stands for what `one` keeps after the step
 pub carried : (old new : BenchView) (s : OneState) (worker : ℕ) (command : Command) (reply said : Reply) (cache : CacheState) → StandsAt s old → OneEnds (one_step s worker command) said cache new.heap.heap → reply ≡ said → new.cache.state ≡ cache → new.cache.home ≡ old.cache.home → IsFrame old.heap new.heap →
@@ -119,7 +107,7 @@ pub holds_are : (s : OneState) (b : BenchView) → StandsAt s b → (place : ℕ
 holds_are s b at place = at.held place ∙ in_use s b.heap.heap place at.stands
 
 pub tags_size : (s : OneState) (b : BenchView) → StandsAt s b → length s.map.tags ≡ length b.heap.heap.tags
-tags_size s b at = sym (ap length at.stands.stands.tags ∙ length-map s.map.tags (option_map (address_in s.addresses)))
+tags_size s b at = sym (ap length at.stands.stands.paired.tags ∙ length-map s.map.tags (option_map (address_in s.addresses)))
 
 -- Refusals and answers
 
@@ -174,7 +162,7 @@ absent_is h name value end new s stands present none = by_address (address_of h.
   where
     by_address : (x : Option ℕ) → address_of h.heap name ≡ x → x ≡ None
     by_address None e = refl
-    by_address (Some b) e = absurd (answered end _ none ((present b e).reply s.map s.addresses stands.valid stands.stands))
+    by_address (Some b) e = absurd (answered end _ none ((present b e).reply s.map s.addresses stands.stands))
 
 -- one more place with nothing
 pub one_more_none : {X : Type 0} (xs : List (Option X)) (n : ℕ) → ((k : ℕ) → get_or xs k None ≡ None) → get_or (xs ++ None ∷ []) n None ≡ None
@@ -199,7 +187,7 @@ one_less xs i there =
     inside (y ∷ ys) (suc j) e = omega (arith, inside ys j e)
 
 -- where the least leftover lies there is an object
-pub place_there : (h : HeapState) (b : ℕ) → least_leftover h ≡ Some b → get_or (places_of h) b false ≡ true
+pub place_there : (h : HeapState) (b : ℕ) → least_left_in h ≡ Some b → get_or (places_of h.objects) b false ≡ true
 place_there h b e = mapped h.objects b ∙ leftover_there (object_at h b) (found (length h.objects) (λ n. is_leftover (object_at h n)) b e)
   where
     mapped : (xs : List (Option Object)) (i : ℕ) → get_or (map is_some xs) i false ≡ is_some (get_or xs i None)

@@ -1,13 +1,14 @@
 -- Replies put into a page, one behind the other.
 use Rattle.std.proofs.Common.{◌≡◌, ℕ, ◌+◌, ◌≤◌, ◌<◌, List, [], ◌∷◌, ◌++◌, length, take, drop, refl, Some, None, sym, ap, ◌∙◌, subst, arith, append_assoc, length-append, length-take-le, set, get_or, Option}
 use Rattle.std.proofs.lemmas.List.{append-nil}
-use Rattle.std.proofs.lemmas.List.{take-take, take_at, take_more_set, drop_more}
+use Rattle.std.proofs.lemmas.List.{take-take, take_at, take_more, take_more_set, drop_more}
 use Rattle.std.specs.Io.KnownBytes.{Appends}
 use Rattle.kmem_io.specs.Streams.{AppendsFront, Appends-then, AppendsFront-behind}
 use Rattle.kmem_text.specs.declared.command.Line.{Line}
 use Rattle.kmem_text.specs.Replies.{reply_text}
 use Rattle.kmem_model.specs.One.{one_step}
-use Rattle.kmem_model.specs.OneRun.{OneRun, line_run, replies, lines_run, reply_lines}
+use Rattle.kmem_model.specs.OneRun.{OneRun, line_run, replies, lines_run, reply_lines, history_of}
+use Rattle.kmem_model.specs.History.{IsFullExactly}
 use Rattle.kmemrun.specs.Pages.{MovesOut}
 
 regroup : (a b c d e : List ℕ) → (a ++ b) ++ ((c ++ d) ++ e) ≡ a ++ ((b ++ c) ++ (d ++ e))
@@ -45,6 +46,18 @@ next_reply every names run lines i line small is = ap (λ ls. reply_lines names 
 pub next_run : (every : Option ℕ) (run : OneRun) (lines : List Line) (i : ℕ) (line : Line) → i < length lines → line ≡ get_or lines i line →
     lines_run every (i + 1) run (drop i lines) ≡ lines_run every (i + 1 + 1) (line_run every (i + 1) run line) (drop (i + 1) lines)
 next_run every run lines i line small is = ap (λ ls. lines_run every (i + 1) run ls) (drop_more lines i line small ∙ ap (λ (l : Line). l ∷ drop (i + 1) lines) (sym is))
+
+-- and what holds of the history from a place on, where it goes on by the line there
+pub next_full : (every : Option ℕ) (capacity : ℕ) (run : OneRun) (lines : List Line) (i : ℕ) (line : Line) → i < length lines → line ≡ get_or lines i line →
+    (IsFullExactly capacity (line_run every (i + 1) run line).state.map (history_of every (i + 1 + 1) (line_run every (i + 1) run line) (take i lines ++ line ∷ []) (drop (i + 1) lines)) →
+    IsFullExactly capacity run.state.map (history_of every (i + 1) run (take i lines) (line ∷ drop (i + 1) lines))) →
+    IsFullExactly capacity (line_run every (i + 1) run line).state.map (history_of every (i + 1 + 1) (line_run every (i + 1) run line) (take (i + 1) lines) (drop (i + 1) lines)) →
+    IsFullExactly capacity run.state.map (history_of every (i + 1) run (take i lines) (drop i lines))
+next_full every capacity run lines i line small is on after =
+    subst (λ ls. IsFullExactly capacity run.state.map (history_of every (i + 1) run (take i lines) ls)) (sym (drop_more lines i line small ∙ ap (λ (l : Line). l ∷ drop (i + 1) lines) (sym is)))
+    (on
+    (subst (λ front. IsFullExactly capacity (line_run every (i + 1) run line).state.map (history_of every (i + 1 + 1) (line_run every (i + 1) run line) front (drop (i + 1) lines)))
+    (take_more lines i line small ∙ ap (λ (l : Line). take i lines ++ l ∷ []) (sym is)) after))
 
 -- a text that n bytes hold is no longer
 pub no_longer : (put text rest : List ℕ) (n : ℕ) → put ≡ text ++ rest → length put ≡ n → length text ≤ n

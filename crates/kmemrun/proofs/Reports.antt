@@ -7,7 +7,8 @@ use Rattle.kmem_model.specs.CacheState.{CacheState}
 use Rattle.kmem_model.specs.Records.{live_count}
 use Rattle.kmem_model.specs.Report.{MoveCounts, Report, report_text}
 use Rattle.kmem_model.specs.OneRun.{OneRun, run_ended, report_of, report_after}
-use Rattle.kmem_model.specs.OneRun as one
+use Rattle.kmem_model.specs.Report.{ends_in}
+use Rattle.kmem_model.specs.SettleEntries.{moves_entries}
 use Rattle.kmem_report.specs.Reported.{counts_of, reported}
 use Rattle.object_cache.specs.declared.tally.Tally.{Tally}
 use Rattle.consolidator.specs.Tallies.{tally_of}
@@ -25,7 +26,7 @@ counts_are t c a b d e f h =
 abbrev with_settled : Report → MoveCounts → Report
 with_settled r k = record r { settled = k }
 
-pub report_is : (run : OneRun) (live : ℕ) (moves settled : Tally) (state : CacheState) → live ≡ live_count run.state.map → moves ≡ tally_of [] → counts_of settled ≡ one.counts_of run.moves → state ≡ run.state.cache → reported live 0 moves settled state ≡ report_of run
+pub report_is : (run : OneRun) (live : ℕ) (moves settled : Tally) (state : CacheState) → live ≡ live_count run.state.map → moves ≡ tally_of [] → counts_of settled ≡ ends_in (moves_entries run.moves) → state ≡ run.state.cache → reported live 0 moves settled state ≡ report_of run
 report_is run live moves settled state lives none counts same =
     ap (λ l. reported l 0 moves settled state) lives
     ∙ (ap (λ t. reported (live_count run.state.map) 0 t settled state) none

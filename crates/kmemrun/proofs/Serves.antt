@@ -7,7 +7,7 @@ use Rattle.std.specs.Io.KnownBytes.{Consumes, IsAtEnd}
 use Rattle.std.proofs.lemmas.Bool.{le-ltb}
 use Rattle.std.proofs.lemmas.List.{append-nil}
 use Rattle.kmem_text.specs.Grammar.{Plain, script_of, first_bad_of}
-use Rattle.kmem_model.specs.OneRun.{run_start, run_text, one_output}
+use Rattle.kmem_model.specs.OneRun.{run_start, one_text, one_output}
 use Rattle.kmemrun.specs.declared.fault.Fault.TheVariants.{Limit}
 use Rattle.kmemrun.specs.Answers.{script_answer, one_answer}
 use Rattle.kmemrun.proofs.Benches.{same_some}
@@ -27,7 +27,7 @@ all_read (Some xs) (Some ys) taken bytes took end is = same_some bytes xs (sym i
 
 -- a script that was read whole is answered by its run
 pub run_answer : (slabs chunks : ℕ) (every : Option ℕ) (bytes : List ℕ) (script : Plain) → length bytes ≤ 16777216 → first_bad_of 16 bytes ≡ None → script_of 16 bytes ≡ script → length script.lines ≤ 100000 →
-    one_answer slabs chunks every bytes ≡ Ok (run_text every script.names (run_start slabs chunks (length script.names)) script.lines)
+    one_answer slabs chunks every bytes ≡ Ok (one_text every script.names (run_start slabs chunks (length script.names)) script.lines)
 run_answer slabs chunks every bytes script within good is few =
     ap (λ (b : Bool). if b then Err Limit else script_answer slabs chunks every (first_bad_of 16 bytes) (script_of 16 bytes)) (le-ltb 16777216 (length bytes) within)
     ∙ (ap (λ bad. script_answer slabs chunks every bad (script_of 16 bytes)) good

@@ -4,11 +4,11 @@ use Rattle.kmem_text.specs.declared.command.Command.{Command}
 use Rattle.kmem_text.specs.declared.command.Command.TheVariants.{Get, First, Next, Count}
 use Rattle.kmem_text.specs.declared.command.Line.{Line}
 use Rattle.kmem_text.specs.declared.command.Reply.{Reply}
-use Rattle.kmem_text.specs.Grammar.{IsWithinNames, IsWithinTags}
+use Rattle.kmem_text.specs.Grammar.{IsWithinNames}
 use Rattle.kmem_model.specs.Records.{tag_place}
 use Rattle.kmem_model.specs.Heap.{hold_at, places_of}
 use Rattle.kmem_model.specs.One.{OneState, buffers_of, least_leftover, one_step, one_workers}
-use Rattle.kmem_model.specs.OneRun.{OneRun, line_run, lines_run, replies, reply_lines, without_leftover, without_leftovers}
+use Rattle.kmem_model.specs.OneRun.{OneRun, line_run, without_leftover}
 use Rattle.kmem_model.specs.OneStands.{OneStands}
 use Rattle.object_cache.specs.Cache.{CacheView}
 use Rattle.object_cache.specs.declared.tally.Tally.{Tally}
@@ -16,7 +16,6 @@ use Rattle.record_heap.specs.View.{HeapView, HoldState, IsHoldOf}
 use Rattle.record_heap.specs.declared.heap.put.PutEnd.{PutEnd}
 use Rattle.record_heap.specs.declared.heap.put.PutEnd.TheVariants.{Replied, Wanting}
 use Rattle.consolidator.specs.Tallies.{tally_of}
-use Rattle.kmemrun.specs.Pages.{MovesOut}
 
 -- a cache, the heap of the records in its buffers, the hold of each tag that is in use, by the tag's place, and the moves of all settles
 pub record BenchView : Type 0 where
@@ -56,10 +55,9 @@ pub record RunsAt (run : OneRun) (b : BenchView) : Type 0 where
   pub stands : StandsAt run.state b
   pub settled : b.settled ≡ tally_of run.moves
 
--- the command's names, tags and worker are among those of the bench
+-- the command's names and worker are among those of the bench
 pub record IsOfBench (b : BenchView) (worker : ℕ) (command : Command) : Type 0 where
   pub names : IsWithinNames (length b.heap.heap.names) command
-  pub tags : IsWithinTags command
   pub known : (0 < worker) × (worker ≤ one_workers)
 
 -- the reply is that of `one`, and the bench stands for what `one` keeps then
@@ -89,7 +87,6 @@ reply_in Wanting = None
 -- a line of a script with so many names, for the workers of `one`
 pub record IsGoodLine (names : ℕ) (line : Line) : Type 0 where
   pub within : IsWithinNames names line.command
-  pub tags : IsWithinTags line.command
   pub worker : (0 < line.worker) × (line.worker ≤ one_workers)
 
 -- the reply to a line is that of `one`, and the bench runs on, by a settle too where one is due
@@ -105,21 +102,5 @@ Answers every number line old reply new = (run : OneRun) → RunsAt run old → 
 abbrev pub FreesOne : OneState → BenchView → Bool → BenchView → Type 0
 FreesOne s old true new =
     (b : ℕ) × (least_leftover s ≡ Some b) × StandsAt (without_leftover s b) new
-    × (count_by (λ x. x) (places_of new.heap.heap) + 1 ≡ count_by (λ x. x) (places_of old.heap.heap))
+    × (count_by (λ x. x) (places_of new.heap.heap.objects) + 1 ≡ count_by (λ x. x) (places_of old.heap.heap.objects))
 FreesOne s old false new = (least_leftover s ≡ None) × (new ≡ old)
-
--- what is left after some leftovers were freed, and that freeing the rest leaves what freeing all does
-pub record IsFreeing (s : OneState) (b : BenchView) (more : Bool) : Type 0 where
-  pub n : ℕ
-  pub state : OneState
-  pub stands : StandsAt state b
-  pub fuel : count_by (λ x. x) (places_of b.heap.heap) ≤ n
-  pub same : without_leftovers n state ≡ without_leftovers (buffers_of s.cache) s
-  pub last : more ≡ false → least_leftover state ≡ None
-
--- the replies to the first i lines were put out, or stand in the page, and those to the rest are as the bench runs on
-pub record IsOnPage (every : Option ℕ) (names : List (List ℕ)) (lines : List Line) (i : ℕ) (start : OneRun) (b : BenchView) (old now : Option (List ℕ)) (page : List ℕ) : Type 0 where
-  pub run : OneRun
-  pub runs : RunsAt run b
-  pub written : MovesOut old now (reply_lines names (replies every 1 start lines)) (page ++ reply_lines names (replies every (i + 1) run (drop i lines)))
-  pub rest : lines_run every 1 start lines ≡ lines_run every (i + 1) run (drop i lines)

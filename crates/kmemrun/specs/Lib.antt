@@ -1,3 +1,5 @@
 pub mod Answers
+pub mod Endings
+pub mod Runs
 pub mod Pages
 pub mod Bench

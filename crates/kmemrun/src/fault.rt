@@ -1,7 +1,7 @@
 //! Why a command of the program did not end well.
 
 ghost use Rattle.std.specs.Prelude.{◌≡◌, ◌+◌, ◌≤◌, ◌++◌, length, take};
-ghost use Rattle.kmemrun.specs.Answers.{status_of, fault_word, bad_line_text};
+ghost use Rattle.kmemrun.specs.Endings.{fault_status, fault_line, fault_word, bad_line_text};
 
 use crate::status::Status;
 use itoa::Buffer;
@@ -18,7 +18,7 @@ pub enum Fault {
 
 impl Fault {
     pub fn status(&self) -> Status
-        ensures { result ≡ status_of self.now }
+        ensures { result ≡ fault_status self.now }
     {
         match self {
             Fault::BadScript { line: _, fault: _ } => Status::BadScript,
@@ -28,29 +28,35 @@ impl Fault {
             Fault::NoMemory => Status::NoMemory,
         }
     }
-}
 
-/// The first line of a script that is outside the grammar, counted from 1, and its first failing check.
-#[derive(Clone, Copy)]
-pub struct BadLine {
-    pub line: u32,
-    pub fault: LineFault,
-}
-
-impl BadLine {
     /// Puts the line for standard error at the front of `room`, and answers its length.
-    pub fn write_text(&self, room: &mut [u8]) -> usize
+    pub fn write_line(&self, room: &mut [u8]) -> usize
         requires { 64 ≤ length room.old }
         ensures fits { result ≤ length room.new }
-        ensures text { take result room.new ≡ bad_line_text self.now.line self.now.fault }
+        ensures text { take result room.new ≡ fault_line self.now }
     {
-        let mut digits = Buffer::new();
-        let at = fill(room, 0, b"kmemrun: line ");
-        let at = fill(room, at, digits.format(self.line).as_bytes());
-        let at = fill(room, at, b": ");
-        let at = fill(room, at, fault_word(self.fault));
-        fill(room, at, b"\n")
+        match self {
+            Fault::BadScript { line, fault } => write_bad_line(*line, *fault, room),
+            Fault::Read => fill(room, 0, b"kmemrun: read fault\n"),
+            Fault::Write => fill(room, 0, b"kmemrun: write fault\n"),
+            Fault::Limit => fill(room, 0, b"kmemrun: limit\n"),
+            Fault::NoMemory => fill(room, 0, b"kmemrun: no memory\n"),
+        }
     }
+}
+
+/// The line of a script whose first bad line, counted from 1, and its first failing check these are.
+fn write_bad_line(line: u32, fault: LineFault, room: &mut [u8]) -> usize
+    requires { 64 ≤ length room.old }
+    ensures fits { result ≤ length room.new }
+    ensures text { take result room.new ≡ bad_line_text line fault }
+{
+    let mut digits = Buffer::new();
+    let at = fill(room, 0, b"kmemrun: line ");
+    let at = fill(room, at, digits.format(line).as_bytes());
+    let at = fill(room, at, b": ");
+    let at = fill(room, at, fault_word(fault));
+    fill(room, at, b"\n")
 }
 
 fn fault_word(fault: LineFault) -> &'static [u8]
@@ -68,7 +74,7 @@ fn fault_word(fault: LineFault) -> &'static [u8]
 }
 
 /// Puts a piece at a place, and answers where it ends.
-fn fill(room: &mut [u8], at: usize, piece: &[u8]) -> usize
+pub fn fill(room: &mut [u8], at: usize, piece: &[u8]) -> usize
     requires { at + length piece.now ≤ length room.old }
     ensures end { result ≡ at + length piece.now }
     ensures text { take result room.new ≡ take at room.old ++ piece.now }

@@ -1,7 +1,11 @@
 //! `kmemrun`: record commands over an allocator whose slabs are consolidated.
 #![tactic(auto)]
 
+ghost use Rattle.std.specs.Prelude.{◌≡◌, map, string_bytes, IfOk, IfErr};
 ghost use Rattle.kmem_io.specs.Streams.{CanRise};
+ghost use Rattle.kmem_model.specs.Words.{plan_of};
+ghost use Rattle.kmemrun.specs.Endings.{ending_status};
+ghost use Rattle.kmemrun.specs.Runs.{stream, Tells, IsRunOrWanting, IsRefusal};
 
 mod bench;
 mod fault;
@@ -10,9 +14,9 @@ mod status;
 mod top;
 mod words;
 
-use kmem_io::{Gate, Sink, Source, StdSink, StdSource, write_all};
-use status::Status;
-use std::alloc::Global;
+use kmem_io::{Gate, Sink, Source, StdSink, StdSource};
+use status::{Ending, Status};
+use std::alloc::{AllocError, Global};
 use std::process::ExitCode;
 use std::rt::Env;
 use std::sync::Wait;
@@ -33,24 +37,23 @@ fn main(rt: HostRuntime) -> ExitCode {
     let mut err = StdSink::create(rt.stderr());
     let status = match arguments(&rt, rt.alloc()) {
         Ok(words) => run(&rt, rt.alloc(), &words, &mut input, &mut out, &mut err),
-        Err(status) => refuse(status, &mut err),
+        Err(ending) => refuse(ending, &mut err),
     };
-    ExitCode::from(status.code())
+    status.exit_code()
 }
 
 /// The words after the program's name. Words that aren't text have no plan.
-fn arguments<R: Env + AllocGlobal>(rt: &R, alloc: Global) -> Result<Vec<String>, Status> {
-    let given = match env::args(rt) {
-        Ok(given) => given,
-        Err(error) if error.kind() == io::ErrorKind::OutOfMemory => return Err(Status::NoMemory),
-        Err(_) => return Err(Status::Usage),
-    };
-    match given.skip(1).collect(alloc) {
-        Ok(words) => Ok(words),
-        Err(_) => Err(Status::NoMemory),
+fn arguments<R: Env + AllocGlobal>(rt: &R, alloc: Global) -> Result<Vec<String>, Ending>
+    ensures { IfErr result IsRefusal }
+{
+    match env::args(rt) {
+        Ok(given) => Ok(given.skip(1).collect(alloc)?),
+        Err(error) if error.kind() == io::ErrorKind::OutOfMemory => Err(Ending::from(AllocError)),
+        Err(_) => Err(Ending::Usage),
     }
 }
 
+/// Carries out the words, or ends at once where memory for them is wanting.
 fn run<T: Wait + Threads + Sync, R: Source, W: Sink, E: Sink>(
     rt: &T,
     alloc: Global,
@@ -62,21 +65,34 @@ fn run<T: Wait + Threads + Sync, R: Source, W: Sink, E: Sink>(
     requires input { CanRise (R.faults input.old) }
     requires out { CanRise (W.faults out.old) }
     requires err { CanRise (E.faults err.old) }
+    ensures { IsRunOrWanting (plan_of (map string_bytes given.now))
+        (stream R.left R.faults input.old input.new) (stream W.written W.faults out.old out.new)
+        (stream E.written E.faults err.old err.new) result }
 {
-    let words: Vec<&str> = match given.iter().map(|word| word.as_str()).collect(alloc) {
-        Ok(words) => words,
-        Err(_) => return refuse(Status::NoMemory, err),
-    };
-    top(rt, alloc, &words, input, out, err, &Open).status
+    match as_words(alloc, given) {
+        Ok(words) => top(rt, alloc, &words, input, out, err, &Open).status,
+        Err(error) => refuse(Ending::from(error), err),
+    }
 }
 
-/// Ends with a status before anything was read.
-fn refuse<E: Sink>(status: Status, err: &mut E) -> Status
-    requires { CanRise (E.faults err.old) }
+fn as_words(alloc: Global, given: &[String]) -> Result<Vec<&str>, AllocError>
+    ensures { IfOk result (λ words. map (λ word. word.now) words.items ≡ map string_bytes given.now) }
 {
-    // The status stays, also where its line can't be written.
-    let _ = write_all(err, status.text());
-    status
+    let mut words = Vec::with_capacity(alloc, given.len())?;
+    for word in given {
+        words.push(word.as_str())?;
+    }
+    Ok(words)
+}
+
+/// Tells an ending before anything was read.
+fn refuse<E: Sink>(ending: Ending, err: &mut E) -> Status
+    requires { CanRise (E.faults err.old) }
+    ensures status { result ≡ ending_status ending }
+    ensures told { Tells (stream E.written E.faults err.old err.new) ending }
+{
+    ending.tell(err);
+    ending.status()
 }
 
 #[cfg(test)]

@@ -5,16 +5,19 @@ ghost use Rattle.std.specs.Io.KnownBytes.{Appends, Keeps, Consumes, IsAtEnd};
 ghost use Rattle.kmem_io.specs.Streams.{CanRise, CountsFaults, AppendsFront};
 ghost use Rattle.kmem_text.specs.Grammar.{script_of, first_bad_of};
 ghost use Rattle.kmem_text.specs.Faults.{Explains};
+ghost use Rattle.kmem_text.specs.Scripts.{plain, IsScript};
+ghost use Rattle.kmem_model.specs.History.{IsFullExactly};
+ghost use Rattle.kmem_model.specs.One.{buffers_of};
 ghost use Rattle.kmem_text.specs.Replies.{reply_text, IsReplyWithinNames};
-ghost use Rattle.kmem_model.specs.OneRun.{OneRun, run_start, replies, lines_run, reply_lines, run_text};
-ghost use Rattle.kmemrun.specs.Answers.{one_answer, IfBadScript, IsDue, IsFineButForStreams, IsLawful};
+ghost use Rattle.kmem_model.specs.OneRun.{OneRun, run_start, replies, lines_run, reply_lines, history_of, one_text};
+ghost use Rattle.kmemrun.specs.Answers.{one_answer, IfBadScript, IsDue, IsFineButForStreams, IsTextOfHistory};
 ghost use Rattle.kmemrun.specs.Bench.{Stands, RunsAt, IsGoodLine};
 ghost use Rattle.kmemrun.specs.Pages.{MovesOut};
 
 use crate::bench::Bench;
 use crate::fault::Fault;
 use kmem_io::{Failed, ReadAllError, Sink, Source, read_all, write_all};
-use kmem_model::law_one;
+use kmem_model::{law_one, law_one_step};
 use kmem_text::{Reply, Script, ScriptError, read_script, write_reply};
 use std::alloc::Global;
 
@@ -44,13 +47,11 @@ pub fn serve_one<R: Source, W: Sink>(
     requires input { CanRise (R.faults input.old) }
     requires out { CanRise (W.faults out.old) }
 
-    // What is written for the bytes that were left, all of which are read.
+    // What is written for the bytes that were left, all of which are read: the text of `one`, which is that of a history.
     ensures text { OnOk result (IfSome (R.left input.old) (λ bytes.
-        IsOkAnd (one_answer slabs chunks every bytes) (λ text. Appends (W.written out.old) (W.written out.new) text))) }
+        IsOkAnd (one_answer slabs chunks every bytes) (λ text.
+            Appends (W.written out.old) (W.written out.new) text × IsTextOfHistory slabs chunks (script_of 16 bytes) text))) }
     ensures end { OnOk result (IsAtEnd (R.left input.new)) }
-
-    // The replies are those that the record map gives, and `full` comes exactly where as many records live as there are buffers.
-    ensures lawful { (bytes : List ℕ) → R.left input.old ≡ Some bytes → IsLawful slabs chunks every (script_of 16 bytes) }
 
     // When each fault comes.
     ensures read { IsErrOf result Fault.Read ↔ (R.faults input.old < R.faults input.new) }
@@ -59,6 +60,7 @@ pub fn serve_one<R: Source, W: Sink>(
         IsErrOf (one_answer slabs chunks every bytes) (Fault.BadScript line check)))) }
     ensures first_bad { IfErr result (λ fault. IfBadScript fault (λ line check. IfSome (R.left input.old) (λ bytes.
         first_bad_of 16 bytes ≡ Some (line, check)))) }
+    ensures counted { IfErr result (λ fault. IfBadScript fault (λ line check. 1 ≤ line)) }
     ensures write { IsErrOf result Fault.Write ↔ (W.faults out.old < W.faults out.new) }
     ensures due { IfSome (R.left input.old) (λ bytes. (due : Fault) → IsErrOf (one_answer slabs chunks every bytes) due → IsDue result due) }
     ensures fine { IfSome (R.left input.old) (λ bytes. IsOk (one_answer slabs chunks every bytes) → IsFineButForStreams result) }
@@ -101,19 +103,16 @@ fn open_one(alloc: Global, slabs: u32, chunks: u32, bytes: &[u8]) -> Result<Open
     requires chunks { (0 < chunks) × (chunks ≤ 64) }
     requires buffers { slabs * chunks ≤ 65536 }
     requires size { length bytes.now ≤ 16777216 }
-    ensures script { IfOk result (λ ready. script_of 16 bytes.now ≡ record { names = ready.script.names.items; lines = ready.script.lines.items }) }
+    ensures script { IfOk result (λ ready. script_of 16 bytes.now ≡ plain ready.script) }
     ensures good { OnOk result (first_bad_of 16 bytes.now ≡ None) }
-    ensures few { IfOk result (λ ready. length ready.script.lines.items ≤ 100000) }
+    ensures whole { IfOk result (λ ready. IsScript 16 (plain ready.script)) }
     ensures bench { IfOk result (λ ready. RunsAt (run_start slabs chunks (length ready.script.names.items)) ready.bench) }
     ensures names { IfOk result (λ ready. length ready.bench.heap.heap.names ≡ length ready.script.names.items) }
     ensures within { IfOk result (λ ready. All (IsGoodLine (length ready.script.names.items)) ready.script.lines.items) }
     ensures page { IfOk result (λ ready. length ready.page.items ≡ 65536) }
     ensures error { IfErr result (λ error. Explains error (first_bad_of 16 bytes.now) (length (script_of 16 bytes.now).lines)) }
 {
-    let script = match read_script(alloc, bytes, 16) {
-        Ok(script) => script,
-        Err(error) => return Err(error),
-    };
+    let script = read_script(alloc, bytes, 16)?;
     let Ok(bench) = Bench::create(alloc, slabs, chunks, script.names.len() as u32) else {
         return Err(ScriptError::NoMemory);
     };
@@ -139,8 +138,10 @@ fn answer_script<W: Sink>(
     requires stands { Stands ready.old.bench }
     requires page { 641 ≤ length ready.old.page.items }
     requires out { CanRise (W.faults out.old) }
-    ensures whole { OnOk result ((start : OneRun) → RunsAt start ready.old.bench → Appends (W.written out.old) (W.written out.new) (run_text every ready.old.script.names.items start ready.old.script.lines.items)) }
-    ensures front { (start : OneRun) → RunsAt start ready.old.bench → AppendsFront (W.written out.old) (W.written out.new) (run_text every ready.old.script.names.items start ready.old.script.lines.items) }
+    ensures whole { OnOk result ((start : OneRun) → RunsAt start ready.old.bench → Appends (W.written out.old) (W.written out.new) (one_text every ready.old.script.names.items start ready.old.script.lines.items)) }
+    ensures full { OnOk result ((start : OneRun) → RunsAt start ready.old.bench →
+        IsFullExactly (buffers_of start.state.cache) start.state.map (history_of every 1 start [] ready.old.script.lines.items)) }
+    ensures front { (start : OneRun) → RunsAt start ready.old.bench → AppendsFront (W.written out.old) (W.written out.new) (one_text every ready.old.script.names.items start ready.old.script.lines.items) }
     ensures counted { CountsFaults (W.faults out.old) (W.faults out.new) result }
 {
     answer_lines(&ready.script, &mut ready.bench, every, &mut ready.page, out)?;
@@ -169,8 +170,12 @@ fn answer_lines<W: Sink>(
     ensures front { (start : OneRun) → RunsAt start bench.old → AppendsFront (W.written out.old) (W.written out.new) (reply_lines script.now.names.items (replies every 1 start script.now.lines.items)) }
     ensures counted { CountsFaults (W.faults out.old) (W.faults out.new) result }
     ensures runs { OnOk result ((start : OneRun) → RunsAt start bench.old → RunsAt (lines_run every 1 start script.now.lines.items) bench.new) }
+    ensures full { OnOk result ((start : OneRun) → RunsAt start bench.old →
+        IsFullExactly (buffers_of start.state.cache) start.state.map (history_of every 1 start [] script.now.lines.items)) }
     ensures stands { Stands bench.new }
 {
+    law_one();
+    law_one_step();
     let mut at = 0;
     for index in 0..script.lines.len() {
         at = make_room(page, at, out)?;

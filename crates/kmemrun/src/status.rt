@@ -1,7 +1,15 @@
 //! How a run of the program ends.
 
-ghost use Rattle.std.specs.Prelude.{◌≡◌};
-ghost use Rattle.kmemrun.specs.Answers.{status_code, status_text};
+ghost use Rattle.std.specs.Prelude.{◌≡◌, ◌≤◌, length, take};
+ghost use Rattle.std.specs.Io.KnownBytes.{Appends};
+ghost use Rattle.std.specs.Process.{exit_status};
+ghost use Rattle.kmem_io.specs.Streams.{CanRise, AppendsFront};
+ghost use Rattle.kmemrun.specs.Endings.{status_code, ending_status, ending_line};
+
+use crate::fault::{Fault, fill};
+use kmem_io::{Sink, write_all};
+use std::alloc::AllocError;
+use std::process::ExitCode;
 
 #[derive(Clone, Copy, Debug, PartialEq, Eq)]
 pub enum Status {
@@ -32,20 +40,67 @@ impl Status {
         }
     }
 
-    /// The line on standard error; of a bad script the line is that of its first bad line.
-    pub fn text(&self) -> &'static [u8]
-        ensures { result.now ≡ status_text self.now }
+    pub fn exit_code(&self) -> ExitCode
+        ensures { exit_status result ≡ status_code self.now }
+    {
+        ExitCode::from(self.code())
+    }
+}
+
+/// How a run ended, with all that its line on standard error tells.
+#[derive(Clone, Copy, Debug, PartialEq, Eq)]
+pub enum Ending {
+    Fine,
+    /// The words have no plan.
+    Usage,
+    Failed(Fault),
+}
+
+impl Ending {
+    pub fn status(&self) -> Status
+        ensures { result ≡ ending_status self.now }
     {
         match self {
-            Status::Fine => b"",
-            Status::Usage => b"kmemrun: usage\n",
-            Status::BadScript => b"",
-            Status::ReadFault => b"kmemrun: read fault\n",
-            Status::WriteFault => b"kmemrun: write fault\n",
-            Status::Limit => b"kmemrun: limit\n",
-            Status::NoMemory => b"kmemrun: no memory\n",
-            Status::Illegal => b"kmemrun: illegal\n",
+            Ending::Fine => Status::Fine,
+            Ending::Usage => Status::Usage,
+            Ending::Failed(fault) => fault.status(),
         }
+    }
+
+    /// Puts the line for standard error at the front of `room`, and answers its length.
+    fn write_line(&self, room: &mut [u8]) -> usize
+        requires { 64 ≤ length room.old }
+        ensures fits { result ≤ length room.new }
+        ensures text { take result room.new ≡ ending_line self.now }
+    {
+        match self {
+            Ending::Fine => 0,
+            Ending::Usage => fill(room, 0, b"kmemrun: usage\n"),
+            Ending::Failed(fault) => fault.write_line(room),
+        }
+    }
+
+    /// Writes the line to standard error, as far as that takes it.
+    pub fn tell<E: Sink>(&self, err: &mut E)
+        requires { CanRise (E.faults err.old) }
+        ensures front { AppendsFront (E.written err.old) (E.written err.new) (ending_line self.now) }
+        ensures whole { E.faults err.new ≡ E.faults err.old → Appends (E.written err.old) (E.written err.new) (ending_line self.now) }
+    {
+        let mut room = [0u8; 64];
+        let len = self.write_line(&mut room);
+        // The status stays, also where its line can't be written.
+        let _ = write_all(err, &room[..len]);
+    }
+}
+
+impl From<AllocError> for Ending {
+    ghost use Rattle.kmemrun.specs.declared.status.Ending.TheVariants.{Failed};
+    ghost use Rattle.kmemrun.specs.declared.fault.Fault.TheVariants.{NoMemory};
+
+    ghost from_gives = { λ _ e. e ≡ Failed NoMemory };
+
+    fn from(_e: AllocError) -> Ending {
+        Ending::Failed(Fault::NoMemory)
     }
 }
 

@@ -1,6 +1,5 @@
 -- The kinds of a scan.
 use Rattle.std.specs.Prelude.{Bool, if◌then◌else◌}
-pub use Rattle.kmem_answers.specs.Words.{said_of}
 use Rattle.kmem_model.specs.declared.cache_state.Mode.{Mode}
 use Rattle.kmem_model.specs.declared.cache_state.Mode.TheVariants.{Off, Mild, Desperate}
 

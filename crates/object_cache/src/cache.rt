@@ -2,9 +2,9 @@
 ghost use Rattle.std.specs.Prelude.{◌≡◌, ◌≢◌, ◌≤◌, ◌<◌, ◌*◌, ◌↔◌, ℕ, true, false, Some, nat_lt, length, IfOk, OnErr, IsNone, IfSome};
 ghost use Rattle.std.specs.FinSet as set;
 ghost use Rattle.kmem_buf.specs.Homes.{IsBufferOf};
-ghost use Rattle.kmem_model.specs.CacheState.{slab_at, is_listed, used, opening, slab_count, free_count, out_count, pending_count, dead_count};
+ghost use Rattle.kmem_model.specs.CacheState.{slab_at, is_listed, used, sizes_of, opening, slab_count, free_count, out_count, pending_count, dead_count};
 ghost use Rattle.kmem_model.specs.CacheEnter.{enter};
-ghost use Rattle.kmem_model.specs.CacheHistory.{IsLegal};
+ghost use Rattle.kmem_model.specs.CacheHistory.{MayEnter};
 ghost use Rattle.kmem_model.specs.declared.cache_entry.CacheEntry.TheVariants.{Alloc, Full, Free};
 
 mod moving;
@@ -96,7 +96,7 @@ impl<K: Kind> ObjectCache<K> {
         requires buffers { slabs * chunks ≤ 65536 }
         requires limit { 1 ≤ limit }
         requires source { (supply.slabs ≡ slabs) × ((n : ℕ) → set.contains supply.held n ≡ nat_lt n slabs) }
-        ensures state { IfOk result (λ c. c.state ≡ opening slabs chunks limit) }
+        ensures state { IfOk result (λ c. c.state ≡ opening (sizes_of slabs chunks limit)) }
         ensures home { IfOk result (λ c. (length c.home.cells ≡ slabs * chunks) × (length c.home.moves ≡ limit)) }
     {
         Ok(ObjectCache {
@@ -130,7 +130,7 @@ impl<K: Kind> ObjectCache<K> {
     pub fn alloc(&mut self) -> Result<Buf<K>, AllocRefused>
         ensures entry { IfOk result (λ buf. enter self.old.state (Alloc buf.number) ≡ Some self.new.state) }
         ensures ready { IfOk result (λ buf. K.constructed buf.object × IsBufferOf self.old.home.cells buf) }
-        ensures full { (result ≡ Err AllocRefused.Full) ↔ IsLegal self.old.state Full }
+        ensures full { (result ≡ Err AllocRefused.Full) ↔ MayEnter self.old.state Full }
         ensures full_entry { result ≡ Err AllocRefused.Full → enter self.old.state Full ≡ Some self.new.state }
         ensures memory { K.never_refuses ≡ true → result ≢ Err AllocRefused.NoMemory }
         ensures refused { OnErr result (self.new ≡ self.old) }

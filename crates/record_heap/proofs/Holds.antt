@@ -9,7 +9,7 @@ use Rattle.kmem_model.specs.CacheOrder.{is_the}
 use Rattle.kmem_model.specs.Records.{Record, RecordMap, IsValid, id_of, held_at, record_at, is_live, value_at, is_used, without_unused}
 use Rattle.kmem_model.specs.Records as map_of
 use Rattle.kmem_model.specs.RecordStep.{hold_step, write_step, drop_step, put_step, fix_step}
-use Rattle.kmem_model.specs.Heap.{Object, HeapState, blank, address_of, hold_at, object_at, has_record, is_leftover, IsTied, StandsFor}
+use Rattle.kmem_model.specs.Heap.{Object, HeapState, blank, address_of, hold_at, object_at, has_record, is_leftover, IsTied, IsPaired}
 use Rattle.record_heap.specs.Objects.{held_more, held_less, is_unused}
 use Rattle.record_heap.specs.Changes.{value_in, holds_in, with_object, valued, fixed_at, tagged, untagged}
 use Rattle.record_heap.specs.Kept.{IsKept}
@@ -24,23 +24,23 @@ use Rattle.record_heap.proofs.Names.{apart_in, read_less, ended_map}
 module _ (h : HeapState) (p r l : ℕ) (kept : IsKept h p r l) (b : ℕ) (it : IsRecord h b) where
   -- A value or a flag is written
 
-  pub fix_stands : (m : RecordMap) (a : List ℕ) → IsValid m → StandsFor m a h → (name : ℕ) → address_of h name ≡ Some b → (fixed : Bool) →
-      StandsFor (fix_step m fixed (id_of m name)).map a (fixed_at h b fixed)
+  pub fix_stands : (m : RecordMap) (a : List ℕ) → IsValid m → IsPaired m a h → (name : ℕ) → address_of h name ≡ Some b → (fixed : Bool) →
+      IsPaired (fix_step m fixed (id_of m name)).map a (fixed_at h b fixed)
   fix_stands m a valid s name leads fixed =
       let t = led m a h valid s name b leads in
-      subst (λ (x : Option ℕ). StandsFor (fix_step m fixed x).map a (fixed_at h b fixed)) (sym t.is) (fixed_stands h p r l kept b it m a s (id_of m name) t fixed)
+      subst (λ (x : Option ℕ). IsPaired (fix_step m fixed x).map a (fixed_at h b fixed)) (sym t.is) (fixed_stands h p r l kept b it m a s (id_of m name) t fixed)
 
-  pub write_stands : (m : RecordMap) (a : List ℕ) → IsValid m → StandsFor m a h → (place : ℕ) → hold_at h place ≡ Some b → (value : List ℕ) →
-      StandsFor (write_step m value (held_at m place)).map a (valued h b value)
+  pub write_stands : (m : RecordMap) (a : List ℕ) → IsValid m → IsPaired m a h → (place : ℕ) → hold_at h place ≡ Some b → (value : List ℕ) →
+      IsPaired (write_step m value (held_at m place)).map a (valued h b value)
   write_stands m a valid s place leads value =
       let t = led_tag m a h valid s place b leads in
-      subst (λ (x : Option ℕ). StandsFor (write_step m value x).map a (valued h b value)) (sym t.is) (valued_stands h p r l kept b it m a s (held_at m place) t value)
+      subst (λ (x : Option ℕ). IsPaired (write_step m value x).map a (valued h b value)) (sym t.is) (valued_stands h p r l kept b it m a s (held_at m place) t value)
 
-  pub put_stands : (m : RecordMap) (a : List ℕ) → IsValid m → StandsFor m a h → (name : ℕ) → address_of h name ≡ Some b → (value : List ℕ) →
-      StandsFor (put_step m name value (id_of m name)).map a (valued h b value)
+  pub put_stands : (m : RecordMap) (a : List ℕ) → IsValid m → IsPaired m a h → (name : ℕ) → address_of h name ≡ Some b → (value : List ℕ) →
+      IsPaired (put_step m name value (id_of m name)).map a (valued h b value)
   put_stands m a valid s name leads value =
       let t = led m a h valid s name b leads in
-      subst (λ (x : Option ℕ). StandsFor (put_step m name value x).map a (valued h b value)) (sym t.is) (valued_stands h p r l kept b it m a s (id_of m name) t value)
+      subst (λ (x : Option ℕ). IsPaired (put_step m name value x).map a (valued h b value)) (sym t.is) (valued_stands h p r l kept b it m a s (id_of m name) t value)
 
   -- One tag more
 
@@ -70,15 +70,15 @@ module _ (h : HeapState) (p r l : ℕ) (kept : IsKept h p r l) (b : ℕ) (it : I
         (kept_at h p r l kept h.names (set h.tags place (Some b)) b (low h p r l kept b it) (Some (held_more it.o)) p r l tied_tag
         (whole_of (held_more it.o) (whole_held it.o it.has it.whole)) refl (length-set h.tags place (Some b)) kept.names_counted c.0 c.1)
 
-    pub tagged_stands : (m : RecordMap) (a : List ℕ) → IsValid m → StandsFor m a h → (name : ℕ) → address_of h name ≡ Some b →
-        (Done ≡ (hold_step m place (held_at m place) (id_of m name)).reply) × StandsFor (hold_step m place (held_at m place) (id_of m name)).map a (tagged h place b)
+    pub tagged_stands : (m : RecordMap) (a : List ℕ) → IsValid m → IsPaired m a h → (name : ℕ) → address_of h name ≡ Some b →
+        (Done ≡ (hold_step m place (held_at m place) (id_of m name)).reply) × IsPaired (hold_step m place (held_at m place) (id_of m name)).map a (tagged h place b)
     tagged_stands m a valid s name leads =
         let t = led m a h valid s name b leads in
         let step : hold_step m place (held_at m place) (id_of m name) ≡ hold_step m place None (Some t.id) =
         ap₂ (λ (x y : Option ℕ). hold_step m place x y) (no_tag m a h s place was) t.is in (
           sym (ap (λ q. q.reply) step),
-          subst (λ k. StandsFor k a (tagged h place b)) (sym (ap (λ q. q.map) step))
-              (subst (λ k. StandsFor (map_of.with_tag m place (Some t.id)) a k) (sym tagged_is)
+          subst (λ k. IsPaired k a (tagged h place b)) (sym (ap (λ q. q.map) step))
+              (subst (λ k. IsPaired (map_of.with_tag m place (Some t.id)) a k) (sym tagged_is)
               (same_there m a h s (id_of m name) b t m.names (set m.tags place (Some t.id)) h.names (set h.tags place (Some b)) (Some (held_more it.o)) s.names (begun_mapped m a h s (id_of m name) b t m.tags h.tags place s.tags)
               (record_same m a h s (id_of m name) b t it.o it.at) tied_tag)),
         )
@@ -129,7 +129,7 @@ module _ (h : HeapState) (p r l : ℕ) (kept : IsKept h p r l) (b : ℕ) (it : I
 
     -- the step of the map
 
-    module _ (m : RecordMap) (a : List ℕ) (valid : IsValid m) (s : StandsFor m a h) where
+    module _ (m : RecordMap) (a : List ℕ) (valid : IsValid m) (s : IsPaired m a h) where
       is_used_now : is_used (map_of.with_tag m place None) (led_tag m a h valid s place b was).id ≡ not (is_unused (held_less it.o))
       is_used_now =
           let t = led_tag m a h valid s place b was in
@@ -145,21 +145,21 @@ module _ (h : HeapState) (p r l : ℕ) (kept : IsKept h p r l) (b : ℕ) (it : I
       step_map : (drop_step m place (held_at m place)).map ≡ without_unused (map_of.with_tag m place None) (led_tag m a h valid s place b was).id
       step_map = ap (λ x. (drop_step m place x).map) (led_tag m a h valid s place b was).is
 
-      pub untagged_stands : is_unused (held_less it.o) ≡ false → StandsFor (drop_step m place (held_at m place)).map a (untagged h place b)
+      pub untagged_stands : is_unused (held_less it.o) ≡ false → IsPaired (drop_step m place (held_at m place)).map a (untagged h place b)
       untagged_stands used =
           let t = led_tag m a h valid s place b was in
-          subst (λ k. StandsFor k a (untagged h place b))
+          subst (λ k. IsPaired k a (untagged h place b))
           (sym (step_map ∙ cond-true (is_used (map_of.with_tag m place None) t.id) (map_of.with_tag m place None) (ended_map (map_of.with_tag m place None) t.id) (is_used_now ∙ ap not used)))
-          (subst (λ k. StandsFor (map_of.with_tag m place None) a k) (sym untagged_is)
+          (subst (λ k. IsPaired (map_of.with_tag m place None) a k) (sym untagged_is)
           (same_there m a h s (held_at m place) b t m.names (set m.tags place None) h.names (set h.tags place None) (Some (held_less it.o)) s.names (ended_mapped m a h s (held_at m place) b t m.tags h.tags place s.tags)
           (record_same m a h s (held_at m place) b t it.o it.at) (tied_untag used)))
 
-      pub left_stands : is_unused (held_less it.o) ≡ true → StandsFor (drop_step m place (held_at m place)).map a (with_object (untagged h place b) b (Some blank))
+      pub left_stands : is_unused (held_less it.o) ≡ true → IsPaired (drop_step m place (held_at m place)).map a (with_object (untagged h place b) b (Some blank))
       left_stands unused =
           let t = led_tag m a h valid s place b was in
-          subst (λ k. StandsFor k a (with_object (untagged h place b) b (Some blank)))
+          subst (λ k. IsPaired k a (with_object (untagged h place b) b (Some blank)))
           (sym (step_map ∙ cond-false (is_used (map_of.with_tag m place None) t.id) (map_of.with_tag m place None) (ended_map (map_of.with_tag m place None) t.id) (is_used_now ∙ ap not unused)))
-          (subst (λ k. StandsFor (ended_map (map_of.with_tag m place None) t.id) a k) (sym left_is)
+          (subst (λ k. IsPaired (ended_map (map_of.with_tag m place None) t.id) a k) (sym left_is)
           (changed_there m a h s (held_at m place) b t m.names (set m.tags place None) h.names (set h.tags place None) None (Some blank) s.names (ended_mapped m a h s (held_at m place) b t m.tags h.tags place s.tags) refl (tied_leave unused)))
 
     -- it is held

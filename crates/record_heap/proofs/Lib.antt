@@ -10,3 +10,4 @@ pub mod Names
 pub mod Holds
 pub mod Puts
 pub mod Benches
+pub mod Sizes

@@ -7,7 +7,7 @@ use Rattle.kmem_text.specs.declared.command.Reply.TheVariants.{Gone, Done, Taken
 use Rattle.kmem_model.specs.Records.{Record, RecordMap, IsValid, id_of, record_at, is_live, value_at, name_count, tag_count, is_used, without_unused}
 use Rattle.kmem_model.specs.Records as map_of
 use Rattle.kmem_model.specs.RecordStep.{del_step, link_step}
-use Rattle.kmem_model.specs.Heap.{Object, HeapState, address_of, object_at, has_record, address_in, IsTied, StandsFor}
+use Rattle.kmem_model.specs.Heap.{Object, HeapState, address_of, object_at, has_record, address_in, IsTied, IsPaired}
 use Rattle.record_heap.specs.Objects.{with_back, without_back, is_unused}
 use Rattle.record_heap.specs.Changes.{value_in, names_in, with_object, linked, unlinked}
 use Rattle.record_heap.specs.Kept.{IsKept}
@@ -20,7 +20,7 @@ use Rattle.record_heap.proofs.Kept.{one_if, kept_at, whole_of, whole_without, wh
 use Rattle.record_heap.proofs.Steps.{step_of, IsRecord, value_same, record_same, same_there, changed_there, begun_mapped, ended_mapped, low, record_now, left_now, none_some, counts_stay}
 
 -- ids with one address are one, where they are read in a list of ids that live
-pub apart_in : (m : RecordMap) (a : List ℕ) (h : HeapState) → StandsFor m a h → (id : ℕ) → is_live m id ≡ true → (xs : List (Option ℕ)) → ((i j : ℕ) → get_or xs i None ≡ Some j → is_live m j ≡ true) →
+pub apart_in : (m : RecordMap) (a : List ℕ) (h : HeapState) → IsPaired m a h → (id : ℕ) → is_live m id ≡ true → (xs : List (Option ℕ)) → ((i j : ℕ) → get_or xs i None ≡ Some j → is_live m j ≡ true) →
     (i j : ℕ) → get_or xs i None ≡ Some j → address_in a j ≡ address_in a id → j ≡ id
 apart_in m a h s id live xs lives i j is same = s.apart j id (lives i j is) live same
 
@@ -68,8 +68,8 @@ module _ (h : HeapState) (p r l : ℕ) (kept : IsKept h p r l) (b : ℕ) (it : I
         (whole_of (with_back n it.o) (whole_back it.o n it.has (it.counts.back n ∙ is_the-none (address_of h n) b was) it.whole)) (length-set h.names n (Some b)) refl
         (omega (arith, kept.names_counted, count-set_more is_some h.names n (Some b) None below (ap is_some was) refl)) c.0 c.1)
 
-    pub linked_stands : (m : RecordMap) (a : List ℕ) → IsValid m → StandsFor m a h → (name : ℕ) → address_of h name ≡ Some b → length (names_in h b) < 8 →
-        (Done ≡ (link_step m n (id_of m name)).reply) × StandsFor (link_step m n (id_of m name)).map a (linked h n b)
+    pub linked_stands : (m : RecordMap) (a : List ℕ) → IsValid m → IsPaired m a h → (name : ℕ) → address_of h name ≡ Some b → length (names_in h b) < 8 →
+        (Done ≡ (link_step m n (id_of m name)).reply) × IsPaired (link_step m n (id_of m name)).map a (linked h n b)
     linked_stands m a valid s name leads room =
         let t = led m a h valid s name b leads in
         let free : is_some (id_of m n) ≡ false = ap is_some (no_name m a h s n was) in
@@ -81,8 +81,8 @@ module _ (h : HeapState) (p r l : ℕ) (kept : IsKept h p r l) (b : ℕ) (it : I
         let step : link_step m n (id_of m name) ≡ step_of Done (map_of.with_name m n (Some t.id)) =
         ap (link_step m n) t.is ∙ by (is_some (id_of m n)) (name_count m t.id == 8) t.id free few in (
           sym (ap (λ q. q.reply) step),
-          subst (λ k. StandsFor k a (linked h n b)) (sym (ap (λ q. q.map) step))
-              (subst (λ k. StandsFor (map_of.with_name m n (Some t.id)) a k) (sym linked_is)
+          subst (λ k. IsPaired k a (linked h n b)) (sym (ap (λ q. q.map) step))
+              (subst (λ k. IsPaired (map_of.with_name m n (Some t.id)) a k) (sym linked_is)
               (same_there m a h s (id_of m name) b t (set m.names n (Some t.id)) m.tags (set h.names n (Some b)) h.tags (Some (with_back n it.o)) (begun_mapped m a h s (id_of m name) b t m.names h.names n s.names) s.tags
               (record_same m a h s (id_of m name) b t it.o it.at) tied_link)),
         )
@@ -93,7 +93,7 @@ module _ (h : HeapState) (p r l : ℕ) (kept : IsKept h p r l) (b : ℕ) (it : I
         by false false id e f = refl
 
   -- the record has as many names as a record may have
-  pub full_stays : (m : RecordMap) (a : List ℕ) → IsValid m → StandsFor m a h → (n name : ℕ) → address_of h n ≡ None → address_of h name ≡ Some b → (length (names_in h b) == 8) ≡ true →
+  pub full_stays : (m : RecordMap) (a : List ℕ) → IsValid m → IsPaired m a h → (n name : ℕ) → address_of h n ≡ None → address_of h name ≡ Some b → (length (names_in h b) == 8) ≡ true →
       link_step m n (id_of m name) ≡ step_of Many m
   full_stays m a valid s n name was leads full =
       let t = led m a h valid s name b leads in
@@ -165,7 +165,7 @@ module _ (h : HeapState) (p r l : ℕ) (kept : IsKept h p r l) (b : ℕ) (it : I
 
     -- the step of the map
 
-    module _ (m : RecordMap) (a : List ℕ) (valid : IsValid m) (s : StandsFor m a h) where
+    module _ (m : RecordMap) (a : List ℕ) (valid : IsValid m) (s : IsPaired m a h) where
       pub is_used_now : is_used (map_of.with_name m n None) (led m a h valid s n b was).id ≡ not (is_unused (without_back n it.o))
       is_used_now =
           let t = led m a h valid s n b was in
@@ -193,19 +193,19 @@ module _ (h : HeapState) (p r l : ℕ) (kept : IsKept h p r l) (b : ℕ) (it : I
           ∙ cond-false (is_used (map_of.with_name m n None) (led m a h valid s n b was).id) (map_of.with_name m n None) (ended_map (map_of.with_name m n None) (led m a h valid s n b was).id)
           (is_used_now ∙ ap not unused)
 
-      pub unlinked_stands : is_unused (without_back n it.o) ≡ false → StandsFor (del_step m n (id_of m n)).map a (unlinked h n b)
+      pub unlinked_stands : is_unused (without_back n it.o) ≡ false → IsPaired (del_step m n (id_of m n)).map a (unlinked h n b)
       unlinked_stands used =
           let t = led m a h valid s n b was in
-          subst (λ k. StandsFor k a (unlinked h n b)) (sym (used_map used))
-          (subst (λ k. StandsFor (map_of.with_name m n None) a k) (sym unlinked_is)
+          subst (λ k. IsPaired k a (unlinked h n b)) (sym (used_map used))
+          (subst (λ k. IsPaired (map_of.with_name m n None) a k) (sym unlinked_is)
           (same_there m a h s (id_of m n) b t (set m.names n None) m.tags (set h.names n None) h.tags (Some (without_back n it.o)) (ended_mapped m a h s (id_of m n) b t m.names h.names n s.names) s.tags
           (record_same m a h s (id_of m n) b t it.o it.at) (tied_unlink used)))
 
-      pub ended_stands : is_unused (without_back n it.o) ≡ true → StandsFor (del_step m n (id_of m n)).map a (with_object (unlinked h n b) b None)
+      pub ended_stands : is_unused (without_back n it.o) ≡ true → IsPaired (del_step m n (id_of m n)).map a (with_object (unlinked h n b) b None)
       ended_stands unused =
           let t = led m a h valid s n b was in
-          subst (λ k. StandsFor k a (with_object (unlinked h n b) b None)) (sym (unused_map unused))
-          (subst (λ k. StandsFor (ended_map (map_of.with_name m n None) t.id) a k) (sym ended_is)
+          subst (λ k. IsPaired k a (with_object (unlinked h n b) b None)) (sym (unused_map unused))
+          (subst (λ k. IsPaired (ended_map (map_of.with_name m n None) t.id) a k) (sym ended_is)
           (changed_there m a h s (id_of m n) b t (set m.names n None) m.tags (set h.names n None) h.tags None None (ended_mapped m a h s (id_of m n) b t m.names h.names n s.names) s.tags refl (tied_end unused)))
 
       -- the record lives on exactly where it is used

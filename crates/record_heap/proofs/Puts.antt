@@ -6,10 +6,9 @@ use Rattle.kmem_text.specs.declared.command.Reply.TheVariants.{Was}
 use Rattle.std.specs.Option.{option_or}
 use Rattle.std.specs.Bool.{then_some}
 use Rattle.kmem_model.specs.CacheOrder.{least_below}
-use Rattle.record_heap.specs.View.{least_leftover}
 use Rattle.kmem_model.specs.Records.{RecordMap, IsValid, no_records, id_of}
 use Rattle.kmem_model.specs.RecordStep.{put_step}
-use Rattle.kmem_model.specs.Heap.{Object, HeapState, blank, address_of, object_at, has_record, is_leftover, address_in, IsTied, StandsFor}
+use Rattle.kmem_model.specs.Heap.{least_left_in, Object, HeapState, blank, address_of, object_at, has_record, is_leftover, address_in, IsTied, IsPaired}
 use Rattle.record_heap.specs.Changes.{value_in, with_object, made, first_object}
 use Rattle.record_heap.specs.Kept.{IsKept}
 use Rattle.kmem_model.proofs.CacheLists.{count-set_more, counted}
@@ -22,7 +21,7 @@ use Rattle.record_heap.proofs.Steps.{value_same}
 
 -- A put of a name that is there
 
-pub was_put : (m : RecordMap) (a : List ℕ) (h : HeapState) → IsValid m → StandsFor m a h → (name b : ℕ) (value v : List ℕ) → address_of h name ≡ Some b → value_in h b ≡ Some v →
+pub was_put : (m : RecordMap) (a : List ℕ) (h : HeapState) → IsValid m → IsPaired m a h → (name b : ℕ) (value v : List ℕ) → address_of h name ≡ Some b → value_in h b ≡ Some v →
     Was v ≡ (put_step m name value (id_of m name)).reply
 was_put m a h valid s name b value v leads is =
     let t = led m a h valid s name b leads in
@@ -46,9 +45,9 @@ module _ (h : HeapState) (p r l : ℕ) (kept : IsKept h p r l) (n b : ℕ) (valu
       (omega (arith, kept.names_counted, count-set_more is_some h.names n (Some b) None below (ap is_some was) refl))
       (omega (arith, ap one_if none)) (omega (arith, left))
 
-  pub made_stands : (m : RecordMap) (a : List ℕ) → IsValid m → StandsFor m a h → StandsFor (put_step m n value (id_of m n)).map (a ++ b ∷ []) (made h n b value)
+  pub made_stands : (m : RecordMap) (a : List ℕ) → IsValid m → IsPaired m a h → IsPaired (put_step m n value (id_of m n)).map (a ++ b ∷ []) (made h n b value)
   made_stands m a valid s =
-      subst (λ (x : Option ℕ). StandsFor (put_step m n value x).map (a ++ b ∷ []) (made h n b value)) (sym (no_name m a h s n was))
+      subst (λ (x : Option ℕ). IsPaired (put_step m n value x).map (a ++ b ∷ []) (made h n b value)) (sym (no_name m a h s n was))
       (stands_made m a h valid s n b value low none tied_made)
 
 -- where there is no object, or a leftover
@@ -67,7 +66,7 @@ fewer_left h p r l kept b left =
     there (Some o) e = refl
 
 -- where none is counted, none is the least
-pub no_leftover : (h : HeapState) (p r l : ℕ) → IsKept h p r l → l ≡ 0 → least_leftover h ≡ None
+pub no_leftover : (h : HeapState) (p r l : ℕ) → IsKept h p r l → l ≡ 0 → least_left_in h ≡ None
 no_leftover h p r l kept nothing_left =
     least_none (length h.objects) (λ b. is_leftover (object_at h b))
     (λ b. false_from_ne_true (is_leftover (object_at h b)) (λ left. omega (arith, nothing_left, fewer_left h p r l kept b left)))
@@ -89,7 +88,7 @@ without_kept h p r l kept b left =
     never : (q : Object) → ◌≡◌ {A = Option Object} None (Some q) → ⊥
     never q e = cc
 
-pub without_stands : (h : HeapState) (p r l : ℕ) → IsKept h p r l → (b : ℕ) → is_leftover (object_at h b) ≡ true → (m : RecordMap) (a : List ℕ) → StandsFor m a h → StandsFor m a (with_object h b None)
+pub without_stands : (h : HeapState) (p r l : ℕ) → IsKept h p r l → (b : ℕ) → is_leftover (object_at h b) ≡ true → (m : RecordMap) (a : List ℕ) → IsPaired m a h → IsPaired m a (with_object h b None)
 without_stands h p r l kept b left m a s = stands_without m a h s b (no_record (object_at h b) left) (without_kept h p r l kept b left).tied
 
 -- The heap of no record
@@ -123,7 +122,7 @@ tied_nothing names tags objects =
     object : (o : Object) → ◌≡◌ {A = Option Object} None (Some o) → ⊥
     object o e = cc
 
-pub nothing_stands : (names workers objects : ℕ) → StandsFor (no_records names workers) [] (nothing names (8 * workers) objects)
+pub nothing_stands : (names workers objects : ℕ) → IsPaired (no_records names workers) [] (nothing names (8 * workers) objects)
 nothing_stands names workers objects =
     record {
       size = refl;

@@ -6,7 +6,7 @@ use Rattle.std.proofs.lemmas.List.Sums.{sum_by_push}
 use Rattle.kmem_model.specs.CacheOrder.{is_the}
 use Rattle.kmem_model.specs.Records.{Record, RecordMap, IsValid, id_of, held_at, record_at, is_live, name_count, tag_count, is_used}
 use Rattle.kmem_model.specs.RecordStep.{put_step}
-use Rattle.kmem_model.specs.Heap.{Object, HeapState, address_of, hold_at, object_at, record_of, has_record, is_leftover, address_in, IsTied, StandsFor}
+use Rattle.kmem_model.specs.Heap.{Object, HeapState, address_of, hold_at, object_at, record_of, has_record, is_leftover, address_in, IsTied, IsPaired}
 use Rattle.record_heap.specs.Objects.{is_unused}
 use Rattle.record_heap.specs.Changes.{first_object}
 use Rattle.kmem_model.proofs.CacheLists.{count-set, count-set_same, count-set_more}
@@ -24,10 +24,10 @@ none_of : (f : ℕ → ℕ) (o : Option ℕ) → option_map f o ≡ None → o �
 none_of f None e = refl
 none_of f (Some i) e = absurd (cc)
 
-pub at_name : (m : RecordMap) (a : List ℕ) (h : HeapState) → StandsFor m a h → (name : ℕ) → address_of h name ≡ option_map (address_in a) (id_of m name)
+pub at_name : (m : RecordMap) (a : List ℕ) (h : HeapState) → IsPaired m a h → (name : ℕ) → address_of h name ≡ option_map (address_in a) (id_of m name)
 at_name m a h s name = ap (λ xs. get_or xs name None) s.names ∙ read-map (address_in a) m.names name
 
-pub at_tag : (m : RecordMap) (a : List ℕ) (h : HeapState) → StandsFor m a h → (place : ℕ) → hold_at h place ≡ option_map (address_in a) (held_at m place)
+pub at_tag : (m : RecordMap) (a : List ℕ) (h : HeapState) → IsPaired m a h → (place : ℕ) → hold_at h place ≡ option_map (address_in a) (held_at m place)
 at_tag m a h s place = ap (λ xs. get_or xs place None) s.tags ∙ read-map (address_in a) m.tags place
 
 -- the record to which something leads that has this address
@@ -37,20 +37,20 @@ pub record IsLed (m : RecordMap) (a : List ℕ) (o : Option ℕ) (b : ℕ) : Typ
   pub live : is_live m id ≡ true
   pub at : address_in a id ≡ b
 
-pub led : (m : RecordMap) (a : List ℕ) (h : HeapState) → IsValid m → StandsFor m a h → (name b : ℕ) → address_of h name ≡ Some b → IsLed m a (id_of m name) b
+pub led : (m : RecordMap) (a : List ℕ) (h : HeapState) → IsValid m → IsPaired m a h → (name b : ℕ) → address_of h name ≡ Some b → IsLed m a (id_of m name) b
 led m a h valid s name b e =
     let found = some_of (address_in a) (id_of m name) b (sym (at_name m a h s name) ∙ e) in
     record { id = found.0; is = found.1; live = valid.named name found.0 found.1; at = found.2 }
 
-pub led_tag : (m : RecordMap) (a : List ℕ) (h : HeapState) → IsValid m → StandsFor m a h → (place b : ℕ) → hold_at h place ≡ Some b → IsLed m a (held_at m place) b
+pub led_tag : (m : RecordMap) (a : List ℕ) (h : HeapState) → IsValid m → IsPaired m a h → (place b : ℕ) → hold_at h place ≡ Some b → IsLed m a (held_at m place) b
 led_tag m a h valid s place b e =
     let found = some_of (address_in a) (held_at m place) b (sym (at_tag m a h s place) ∙ e) in
     record { id = found.0; is = found.1; live = valid.held place found.0 found.1; at = found.2 }
 
-pub no_name : (m : RecordMap) (a : List ℕ) (h : HeapState) → StandsFor m a h → (name : ℕ) → address_of h name ≡ None → id_of m name ≡ None
+pub no_name : (m : RecordMap) (a : List ℕ) (h : HeapState) → IsPaired m a h → (name : ℕ) → address_of h name ≡ None → id_of m name ≡ None
 no_name m a h s name e = none_of (address_in a) (id_of m name) (sym (at_name m a h s name) ∙ e)
 
-pub no_tag : (m : RecordMap) (a : List ℕ) (h : HeapState) → StandsFor m a h → (place : ℕ) → hold_at h place ≡ None → held_at m place ≡ None
+pub no_tag : (m : RecordMap) (a : List ℕ) (h : HeapState) → IsPaired m a h → (place : ℕ) → hold_at h place ≡ None → held_at m place ≡ None
 no_tag m a h s place e = none_of (address_in a) (held_at m place) (sym (at_tag m a h s place) ∙ e)
 
 -- Objects and their records
@@ -63,31 +63,31 @@ pub recorded : (o : Option Object) → has_record o ≡ is_some (option_and_then
 recorded None = refl
 recorded (Some o) = sym (some_value (λ value. record { value = value; fixed = o.fixed }) o.value)
 
-pub object_live : (m : RecordMap) (a : List ℕ) (h : HeapState) → StandsFor m a h → (id : ℕ) → is_live m id ≡ true → has_record (object_at h (address_in a id)) ≡ true
+pub object_live : (m : RecordMap) (a : List ℕ) (h : HeapState) → IsPaired m a h → (id : ℕ) → is_live m id ≡ true → has_record (object_at h (address_in a id)) ≡ true
 object_live m a h s id live = recorded (object_at h (address_in a id)) ∙ (ap is_some (s.records id live) ∙ live)
 
 there : (o : Option Object) → has_record o ≡ true → is_some o ≡ true
 there None e = e
 there (Some o) e = refl
 
-pub object_low : (m : RecordMap) (a : List ℕ) (h : HeapState) → StandsFor m a h → (id : ℕ) → is_live m id ≡ true → address_in a id < length h.objects
+pub object_low : (m : RecordMap) (a : List ℕ) (h : HeapState) → IsPaired m a h → (id : ℕ) → is_live m id ≡ true → address_in a id < length h.objects
 object_low m a h s id live = some_within h.objects (address_in a id) (there (object_at h (address_in a id)) (object_live m a h s id live))
 
 -- where an object has no record, no live id has its address
-pub off : (m : RecordMap) (a : List ℕ) (h : HeapState) → StandsFor m a h → (b : ℕ) → has_record (object_at h b) ≡ false → (id : ℕ) → is_live m id ≡ true → address_in a id ≢ b
+pub off : (m : RecordMap) (a : List ℕ) (h : HeapState) → IsPaired m a h → (b : ℕ) → has_record (object_at h b) ≡ false → (id : ℕ) → is_live m id ≡ true → address_in a id ≢ b
 off m a h s b none id live e =
     both_ways (has_record (object_at h b)) none (ap (λ n. has_record (object_at h n)) (sym e) ∙ object_live m a h s id live)
 
 -- One record changes
 
-module _ (m : RecordMap) (a : List ℕ) (h : HeapState) (s : StandsFor m a h) (id : ℕ) (live : is_live m id ≡ true) where
+module _ (m : RecordMap) (a : List ℕ) (h : HeapState) (s : IsPaired m a h) (id : ℕ) (live : is_live m id ≡ true) where
   live_before : (r : Option Record) (j : ℕ) → is_some (get_or (set m.records id r) j None) ≡ true → is_live m j ≡ true
   live_before r j is =
       ⊎_elim (λ same. ap (is_live m) same ∙ live) (λ apart. ap is_some (sym (get_or-set_other m.records id j r None apart)) ∙ is) (cases_eq j id)
 
   pub stands_at : (mnames mtags names tags : List (Option ℕ)) (r : Option Record) (o : Option Object) → names ≡ map (option_map (address_in a)) mnames →
       tags ≡ map (option_map (address_in a)) mtags → option_and_then record_of o ≡ r → IsTied (put_at h names tags (address_in a id) o) →
-      StandsFor (record { names = mnames; records = set m.records id r; tags = mtags }) a (put_at h names tags (address_in a id) o)
+      IsPaired (record { names = mnames; records = set m.records id r; tags = mtags }) a (put_at h names tags (address_in a id) o)
   stands_at mnames mtags names tags r o same_names same_tags is tied =
       let b = address_in a id in
       let low : b < length h.objects = object_low m a h s id live in
@@ -124,9 +124,9 @@ module _ (m : RecordMap) (a : List ℕ) (h : HeapState) (s : StandsFor m a h) (i
   -- the record stays as it was
   pub stands_same : (mnames mtags names tags : List (Option ℕ)) (o : Option Object) → names ≡ map (option_map (address_in a)) mnames →
       tags ≡ map (option_map (address_in a)) mtags → option_and_then record_of o ≡ record_at m id → IsTied (put_at h names tags (address_in a id) o) →
-      StandsFor (record { names = mnames; records = m.records; tags = mtags }) a (put_at h names tags (address_in a id) o)
+      IsPaired (record { names = mnames; records = m.records; tags = mtags }) a (put_at h names tags (address_in a id) o)
   stands_same mnames mtags names tags o same_names same_tags is tied =
-      subst (λ (rs : List (Option Record)). StandsFor (record { names = mnames; records = rs; tags = mtags }) a (put_at h names tags (address_in a id) o))
+      subst (λ (rs : List (Option Record)). IsPaired (record { names = mnames; records = rs; tags = mtags }) a (put_at h names tags (address_in a id) o))
       (set-get_or m.records id None) (stands_at mnames mtags names tags (record_at m id) o same_names same_tags is tied)
 
 -- a name or a tag that leads to an id is one to its address
@@ -152,7 +152,7 @@ is_used_by m a names tags id o same_names same_tags apart_names apart_tags count
 
 -- A new record
 
-module _ (m : RecordMap) (a : List ℕ) (h : HeapState) (valid : IsValid m) (s : StandsFor m a h) (name b : ℕ) (value : List ℕ) (low : b < length h.objects) (none : has_record (object_at h b) ≡ false) where
+module _ (m : RecordMap) (a : List ℕ) (h : HeapState) (valid : IsValid m) (s : IsPaired m a h) (name b : ℕ) (value : List ℕ) (low : b < length h.objects) (none : has_record (object_at h b) ≡ false) where
   old_at : (j : ℕ) → is_live m j ≡ true → address_in (a ++ b ∷ []) j ≡ address_in a j
   old_at j live = get_or_append_left a (b ∷ []) 0 j (omega (arith, s.size, some_within m.records j live))
 
@@ -167,7 +167,7 @@ module _ (m : RecordMap) (a : List ℕ) (h : HeapState) (valid : IsValid m) (s :
       (cases_lt j (length m.records))
 
   pub stands_made : IsTied (put_at h (set h.names name (Some b)) h.tags b (Some (first_object name value))) →
-      StandsFor (put_step m name value None).map (a ++ b ∷ []) (put_at h (set h.names name (Some b)) h.tags b (Some (first_object name value)))
+      IsPaired (put_step m name value None).map (a ++ b ∷ []) (put_at h (set h.names name (Some b)) h.tags b (Some (first_object name value)))
   stands_made tied =
       let n = length m.records in
       let a' = a ++ b ∷ [] in
@@ -219,8 +219,8 @@ no_record (Some o) e = by o.value e
     by None h = refl
     by (Some x) h = absurd (both_ways false refl h)
 
-pub stands_without : (m : RecordMap) (a : List ℕ) (h : HeapState) → StandsFor m a h → (b : ℕ) → has_record (object_at h b) ≡ false → IsTied (put_at h h.names h.tags b None) →
-    StandsFor m a (put_at h h.names h.tags b None)
+pub stands_without : (m : RecordMap) (a : List ℕ) (h : HeapState) → IsPaired m a h → (b : ℕ) → has_record (object_at h b) ≡ false → IsTied (put_at h h.names h.tags b None) →
+    IsPaired m a (put_at h h.names h.tags b None)
 stands_without m a h s b none tied =
     record {
       size = s.size;

@@ -11,7 +11,7 @@ use Rattle.kmem_model.specs.CacheOrder.{least_below}
 use Rattle.kmem_model.specs.Records.{Record, RecordMap, IsValid, no_records, id_of, held_at, record_at, is_live, value_at, name_count, tag_count, is_used, live_count, present_count, least_name, without_unused}
 use Rattle.kmem_model.specs.Records as map_of
 use Rattle.kmem_model.specs.RecordStep.{Step, get_step, at_step, read_step}
-use Rattle.kmem_model.specs.Heap.{Object, HeapState, address_of, hold_at, object_at, record_of, has_record, is_leftover, address_in, IsTied, StandsFor}
+use Rattle.kmem_model.specs.Heap.{Object, HeapState, address_of, hold_at, object_at, record_of, has_record, is_leftover, address_in, IsTied, IsPaired}
 use Rattle.record_heap.specs.Objects.{with_value, with_fixed, is_unused}
 use Rattle.record_heap.specs.Changes.{value_in, changed_at, valued, fixed_at}
 use Rattle.record_heap.specs.Kept.{IsWhole, IsKept}
@@ -81,28 +81,28 @@ value_of (Some o) v e = by o.value e
     by (Some w) is = some_is w v is
 
 -- the value that is read at an address is that of the id
-pub value_same : (m : RecordMap) (a : List ℕ) (h : HeapState) → StandsFor m a h → (x : Option ℕ) (b : ℕ) (l : IsLed m a x b) (v : List ℕ) → value_in h b ≡ Some v → v ≡ value_at m l.id
+pub value_same : (m : RecordMap) (a : List ℕ) (h : HeapState) → IsPaired m a h → (x : Option ℕ) (b : ℕ) (l : IsLed m a x b) (v : List ℕ) → value_in h b ≡ Some v → v ≡ value_at m l.id
 value_same m a h s x b l v e =
     sym (value_of (object_at h b) v e)
     ∙ ap (λ (r : Option Record). option_map_or (λ (q : Record). q.value) r [])
     (ap (λ c. option_and_then record_of (object_at h c)) (sym l.at) ∙ s.records l.id l.live)
 
-pub record_same : (m : RecordMap) (a : List ℕ) (h : HeapState) → StandsFor m a h → (x : Option ℕ) (b : ℕ) (l : IsLed m a x b) (o : Object) → object_at h b ≡ Some o → record_of o ≡ record_at m l.id
+pub record_same : (m : RecordMap) (a : List ℕ) (h : HeapState) → IsPaired m a h → (x : Option ℕ) (b : ℕ) (l : IsLed m a x b) (o : Object) → object_at h b ≡ Some o → record_of o ≡ record_at m l.id
 record_same m a h s x b l o at = ap (option_and_then record_of) (sym at) ∙ (ap (λ c. option_and_then record_of (object_at h c)) (sym l.at) ∙ s.records l.id l.live)
 
 -- Replies that change nothing
 
-pub get_some : (m : RecordMap) (a : List ℕ) (h : HeapState) → IsValid m → StandsFor m a h → (name b : ℕ) (v : List ℕ) → address_of h name ≡ Some b → value_in h b ≡ Some v → Val v ≡ (get_step m (id_of m name)).reply
+pub get_some : (m : RecordMap) (a : List ℕ) (h : HeapState) → IsValid m → IsPaired m a h → (name b : ℕ) (v : List ℕ) → address_of h name ≡ Some b → value_in h b ≡ Some v → Val v ≡ (get_step m (id_of m name)).reply
 get_some m a h valid s name b v leads is =
     let l = led m a h valid s name b leads in
     ap Val (value_same m a h s (id_of m name) b l v is) ∙ ap (λ x. (get_step m x).reply) (sym l.is)
 
-pub read_some : (m : RecordMap) (a : List ℕ) (h : HeapState) → IsValid m → StandsFor m a h → (place b : ℕ) (v : List ℕ) → hold_at h place ≡ Some b → value_in h b ≡ Some v → Val v ≡ (read_step m (held_at m place)).reply
+pub read_some : (m : RecordMap) (a : List ℕ) (h : HeapState) → IsValid m → IsPaired m a h → (place b : ℕ) (v : List ℕ) → hold_at h place ≡ Some b → value_in h b ≡ Some v → Val v ≡ (read_step m (held_at m place)).reply
 read_some m a h valid s place b v leads is =
     let l = led_tag m a h valid s place b leads in
     ap Val (value_same m a h s (held_at m place) b l v is) ∙ ap (λ x. (read_step m x).reply) (sym l.is)
 
-pub at_some : (m : RecordMap) (a : List ℕ) (h : HeapState) → IsValid m → StandsFor m a h → (name b : ℕ) (v : List ℕ) → address_of h name ≡ Some b → value_in h b ≡ Some v → At (record { 0 = name }) v ≡ (at_step m (Some name)).reply
+pub at_some : (m : RecordMap) (a : List ℕ) (h : HeapState) → IsValid m → IsPaired m a h → (name b : ℕ) (v : List ℕ) → address_of h name ≡ Some b → value_in h b ≡ Some v → At (record { 0 = name }) v ≡ (at_step m (Some name)).reply
 at_some m a h valid s name b v leads is =
     let l = led m a h valid s name b leads in
     ap (At (record { 0 = name })) (value_same m a h s (id_of m name) b l v is)
@@ -112,7 +112,7 @@ at_some m a h valid s name b v leads is =
     named k None = []
     named k (Some id) = value_at k id
 
-pub least_named : (m : RecordMap) (a : List ℕ) (h : HeapState) → StandsFor m a h → (from : ℕ) → least_below (length h.names) (λ name. nat_le from name && is_some (address_of h name)) ≡ least_name m from
+pub least_named : (m : RecordMap) (a : List ℕ) (h : HeapState) → IsPaired m a h → (from : ℕ) → least_below (length h.names) (λ name. nat_le from name && is_some (address_of h name)) ≡ least_name m from
 least_named m a h s from =
     ap (λ n. least_below n (λ name. nat_le from name && is_some (address_of h name))) (ap (λ (xs : List (Option ℕ)). length xs) s.names ∙ length-map m.names (option_map (address_in a)))
     ∙ least_agree (length m.names) (λ name. nat_le from name && is_some (address_of h name)) (λ name. nat_le from name && is_some (id_of m name))
@@ -133,17 +133,17 @@ places_changed objects b change = map-set_same is_some objects b (option_map cha
 
 -- One record changes where it lies
 
-module _ (m : RecordMap) (a : List ℕ) (h : HeapState) (s : StandsFor m a h) (x : Option ℕ) (b : ℕ) (l : IsLed m a x b) where
+module _ (m : RecordMap) (a : List ℕ) (h : HeapState) (s : IsPaired m a h) (x : Option ℕ) (b : ℕ) (l : IsLed m a x b) where
   pub same_there : (mnames mtags names tags : List (Option ℕ)) (o : Option Object) → names ≡ map (option_map (address_in a)) mnames → tags ≡ map (option_map (address_in a)) mtags →
-      option_and_then record_of o ≡ record_at m l.id → IsTied (put_at h names tags b o) → StandsFor (record { names = mnames; records = m.records; tags = mtags }) a (put_at h names tags b o)
+      option_and_then record_of o ≡ record_at m l.id → IsTied (put_at h names tags b o) → IsPaired (record { names = mnames; records = m.records; tags = mtags }) a (put_at h names tags b o)
   same_there mnames mtags names tags o same_names same_tags is =
-      subst (λ c. IsTied (put_at h names tags c o) → StandsFor (record { names = mnames; records = m.records; tags = mtags }) a (put_at h names tags c o)) l.at
+      subst (λ c. IsTied (put_at h names tags c o) → IsPaired (record { names = mnames; records = m.records; tags = mtags }) a (put_at h names tags c o)) l.at
       (stands_same m a h s l.id l.live mnames mtags names tags o same_names same_tags is)
 
   pub changed_there : (mnames mtags names tags : List (Option ℕ)) (r : Option Record) (o : Option Object) → names ≡ map (option_map (address_in a)) mnames → tags ≡ map (option_map (address_in a)) mtags →
-      option_and_then record_of o ≡ r → IsTied (put_at h names tags b o) → StandsFor (record { names = mnames; records = set m.records l.id r; tags = mtags }) a (put_at h names tags b o)
+      option_and_then record_of o ≡ r → IsTied (put_at h names tags b o) → IsPaired (record { names = mnames; records = set m.records l.id r; tags = mtags }) a (put_at h names tags b o)
   changed_there mnames mtags names tags r o same_names same_tags is =
-      subst (λ c. IsTied (put_at h names tags c o) → StandsFor (record { names = mnames; records = set m.records l.id r; tags = mtags }) a (put_at h names tags c o)) l.at
+      subst (λ c. IsTied (put_at h names tags c o) → IsPaired (record { names = mnames; records = set m.records l.id r; tags = mtags }) a (put_at h names tags c o)) l.at
       (stands_at m a h s l.id l.live mnames mtags names tags r o same_names same_tags is)
 
   -- a name or a tag that leads to the id
@@ -206,10 +206,10 @@ module _ (h : HeapState) (p r l : ℕ) (kept : IsKept h p r l) (b : ℕ) (it : I
   valued_kept value =
       subst (λ k. IsKept k p r l) (sym (changed_is (with_value value))) (kept_same (with_value value it.o) refl refl refl (whole_value it.o value it.whole))
 
-  module _ (m : RecordMap) (a : List ℕ) (s : StandsFor m a h) (x : Option ℕ) (led_to : IsLed m a x b) where
-    pub fixed_stands : (fixed : Bool) → StandsFor (map_of.with_fixed m led_to.id fixed) a (fixed_at h b fixed)
+  module _ (m : RecordMap) (a : List ℕ) (s : IsPaired m a h) (x : Option ℕ) (led_to : IsLed m a x b) where
+    pub fixed_stands : (fixed : Bool) → IsPaired (map_of.with_fixed m led_to.id fixed) a (fixed_at h b fixed)
     fixed_stands fixed =
-        subst (λ k. StandsFor (map_of.with_fixed m led_to.id fixed) a k) (sym (changed_is (with_fixed fixed)))
+        subst (λ k. IsPaired (map_of.with_fixed m led_to.id fixed) a k) (sym (changed_is (with_fixed fixed)))
         (changed_there m a h s x b led_to m.names m.tags h.names h.tags (option_map (λ (q : Record). record_with q.value fixed) (record_at m led_to.id)) (Some (with_fixed fixed it.o)) s.names s.tags
         (by it.o.value ∙ ap (option_map (λ (q : Record). record_with q.value fixed)) (record_same m a h s x b led_to it.o it.at))
         (fixed_kept' fixed))
@@ -221,9 +221,9 @@ module _ (h : HeapState) (p r l : ℕ) (kept : IsKept h p r l) (b : ℕ) (it : I
         fixed_kept' : (f : Bool) → IsTied (put_at h h.names h.tags b (Some (with_fixed f it.o)))
         fixed_kept' f = (kept_same (with_fixed f it.o) refl refl it.has (whole_fixed it.o f it.whole)).tied
 
-    pub valued_stands : (value : List ℕ) → StandsFor (map_of.with_value m led_to.id value) a (valued h b value)
+    pub valued_stands : (value : List ℕ) → IsPaired (map_of.with_value m led_to.id value) a (valued h b value)
     valued_stands value =
-        subst (λ k. StandsFor (map_of.with_value m led_to.id value) a k) (sym (changed_is (with_value value)))
+        subst (λ k. IsPaired (map_of.with_value m led_to.id value) a k) (sym (changed_is (with_value value)))
         (changed_there m a h s x b led_to m.names m.tags h.names h.tags (option_map (λ (q : Record). record_with value q.fixed) (record_at m led_to.id)) (Some (with_value value it.o)) s.names s.tags
         (by it.o.value it.has ∙ ap (option_map (λ (q : Record). record_with value q.fixed)) (record_same m a h s x b led_to it.o it.at))
         (kept_same (with_value value it.o) refl refl refl (whole_value it.o value it.whole)).tied)

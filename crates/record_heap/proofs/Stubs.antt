@@ -6,12 +6,12 @@ use Rattle.std.proofs.lemmas.Nat.{div-mul-add, mod-mul-add}
 use Rattle.std.proofs.lemmas.Option.{slice_get_within, get_or_from_slice_get}
 use Rattle.atomic_table.specs.Seated.{TableId}
 use Rattle.kmem_buf.specs.Homes.{stub_homes}
-use Rattle.kmem_buf.specs.Stubs.{StubState}
+use Rattle.kmem_buf.specs.Stubs.{StubState, AreUnissued}
 use Rattle.kmem_model.specs.Records.{tag_place}
 use Rattle.record_heap.specs.View.{hold_facts}
-use Rattle.record_heap.specs.Tags.{AreIssued, AreFree, IsStubOf}
+use Rattle.record_heap.specs.Tags.{AreIssued, IsStubOf}
 
-pub start : (stubs : List StubState) (count : ℕ) → length stubs ≡ count → count ≤ 128 → AreFree stubs → AreIssued stubs (replicate count None)
+pub start : (stubs : List StubState) (count : ℕ) → length stubs ≡ count → count ≤ 128 → AreUnissued stubs → AreIssued stubs (replicate count None)
 start stubs count as_many few free =
     record {
       size = as_many ∙ sym (length-replicate count None);

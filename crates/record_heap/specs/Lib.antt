@@ -5,5 +5,4 @@ pub mod Tags
 pub mod Changes
 pub mod Kept
 pub mod Puts
-pub mod Answers
 pub mod Bench

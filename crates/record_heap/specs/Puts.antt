@@ -3,11 +3,11 @@ use Rattle.std.specs.Prelude.{ℕ, ◌≡◌, true, List, Option, Some, None, sl
 use Rattle.atomic_table.specs.Seated.{TableId}
 use Rattle.kmem_buf.specs.Buffers.{BufState}
 use Rattle.kmem_buf.specs.Homes.{IsBufferOf}
-use Rattle.kmem_model.specs.Records.{RecordMap, IsValid, id_of}
+use Rattle.kmem_model.specs.Records.{RecordMap, id_of}
 use Rattle.kmem_model.specs.RecordStep.{put_step}
-use Rattle.kmem_model.specs.Heap.{Object, StandsFor, blank, object_at, places_of}
+use Rattle.kmem_model.specs.Heap.{least_left_in, Object, StandsFor, blank, object_at, places_of}
 use Rattle.kmem_text.specs.declared.command.Reply.TheVariants.{New, Was, Full}
-use Rattle.record_heap.specs.View.{HeapView, IsNew, least_leftover}
+use Rattle.record_heap.specs.View.{HeapView, IsNew}
 use Rattle.record_heap.specs.declared.heap.put.Offer.{Offer}
 use Rattle.record_heap.specs.declared.heap.put.Offer.TheVariants.{Nothing, Fresh, Refused}
 use Rattle.record_heap.specs.declared.heap.put.PutEnd.{PutEnd}
@@ -22,9 +22,9 @@ offered (Refused note) = None
 -- the name was there: its record has the value, and the buffer that was offered comes back
 pub record IsReplaced (old : HeapView) (name : ℕ) (value : List ℕ) (offer : Offer) (end : PutEnd) (new : HeapView) : Type 0 where
   pub back : (was : List ℕ) × (end ≡ Replied (Was was) (offered offer))
-  pub reply : (m : RecordMap) (addresses : List ℕ) → IsValid m → StandsFor m addresses old.heap → end ≡ Replied (put_step m name value (id_of m name)).reply (offered offer)
-  pub stands : (m : RecordMap) (addresses : List ℕ) → IsValid m → StandsFor m addresses old.heap → StandsFor (put_step m name value (id_of m name)).map addresses new.heap
-  pub places : places_of new.heap ≡ places_of old.heap
+  pub reply : (m : RecordMap) (addresses : List ℕ) → StandsFor m addresses old.heap → end ≡ Replied (put_step m name value (id_of m name)).reply (offered offer)
+  pub stands : (m : RecordMap) (addresses : List ℕ) → StandsFor m addresses old.heap → StandsFor (put_step m name value (id_of m name)).map addresses new.heap
+  pub places : places_of new.heap.objects ≡ places_of old.heap.objects
 
 -- a buffer that is offered is of these cells, and constructed
 abbrev pub IsReadyOffer : List TableId → Offer → Type 0
@@ -41,13 +41,13 @@ pub record IsMade (old : HeapView) (name : ℕ) (value : List ℕ) (b : ℕ) (en
   pub reply : end ≡ Replied New None
   pub is_new : IsNew old name value b new
   pub empty : object_at old.heap b ≡ None
-  pub places : places_of new.heap ≡ slice_set (places_of old.heap) b true
+  pub places : places_of new.heap.objects ≡ slice_set (places_of old.heap.objects) b true
 
 -- a new record lies at this address, where a leftover was
 pub record IsReused (old : HeapView) (name : ℕ) (value : List ℕ) (b : ℕ) (end : PutEnd) (new : HeapView) : Type 0 where
   pub reply : end ≡ Replied New None
   pub is_new : IsNew old name value b new
-  pub places : places_of new.heap ≡ places_of old.heap
+  pub places : places_of new.heap.objects ≡ places_of old.heap.objects
 
 -- how a put of an absent name ends where the cache has no buffer, and this is the least leftover, if there is one
 abbrev pub IsPutLast : HeapView → ℕ → List ℕ → Option ℕ → PutEnd → HeapView → Type 0
@@ -58,4 +58,4 @@ IsPutLast old name value (Some b) end new = IsReused old name value b end new
 abbrev pub IsPutNew : HeapView → ℕ → List ℕ → Offer → PutEnd → HeapView → Type 0
 IsPutNew old name value Nothing end new = IsRefused old Wanting end new
 IsPutNew old name value (Fresh buf) end new = IsMade old name value buf.number end new
-IsPutNew old name value (Refused note) end new = IsPutLast old name value (least_leftover old.heap) end new
+IsPutNew old name value (Refused note) end new = IsPutLast old name value (least_left_in old.heap) end new

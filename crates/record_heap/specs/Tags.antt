@@ -19,7 +19,3 @@ pub record AreIssued (stubs : List StubState) (tags : List (Option ℕ)) : Type 
   pub size : length stubs ≡ length tags
   pub few : length tags ≤ 128
   pub issued : (j : ℕ) (d : StubState) → j < length tags → IsStubOf j (slice_index_or stubs j d) (slice_index_or tags j None)
-
--- none of these stubs is issued
-abbrev pub AreFree : List StubState → Type 0
-AreFree stubs = (j : ℕ) (d : StubState) → j < length stubs → (slice_index_or stubs j d).issued ≡ false

@@ -6,7 +6,7 @@ use Rattle.kmem_text.specs.declared.command.Reply.{Reply}
 use Rattle.kmem_buf.specs.Buffers.{BufState}
 use Rattle.kmem_buf.specs.Homes.{Homes, IsBufferOf}
 use Rattle.kmem_model.specs.CacheOrder.{least_below}
-use Rattle.kmem_model.specs.Records.{RecordMap, IsValid, tag_place, id_of, is_live}
+use Rattle.kmem_model.specs.Records.{RecordMap, tag_place, id_of, is_live}
 use Rattle.kmem_model.specs.RecordStep.{put_step, del_step}
 use Rattle.kmem_model.specs.Heap.{Object, HeapState, StandsFor, blank, address_of, object_at, is_leftover, address_in, places_of}
 
@@ -50,36 +50,32 @@ pub record IsFrame (old new : HeapView) : Type 0 where
 
 -- for whatever map the heap stands for, the reply is the one that this says
 abbrev pub IsReplyBy : HeapState → (RecordMap → Reply) → Reply → Type 0
-IsReplyBy h says reply = (m : RecordMap) (addresses : List ℕ) → IsValid m → StandsFor m addresses h → reply ≡ says m
+IsReplyBy h says reply = (m : RecordMap) (addresses : List ℕ) → StandsFor m addresses h → reply ≡ says m
 
 -- for whatever map the heap stood for, it stands for the next one, with the same addresses
 abbrev pub IsStepBy : HeapState → HeapState → (RecordMap → RecordMap) → Type 0
-IsStepBy old new next = (m : RecordMap) (addresses : List ℕ) → IsValid m → StandsFor m addresses old → StandsFor (next m) addresses new
-
--- the least address of a leftover
-abbrev pub least_leftover : HeapState → Option ℕ
-least_leftover h = least_below (length h.objects) (λ b. is_leftover (object_at h b))
+IsStepBy old new next = (m : RecordMap) (addresses : List ℕ) → StandsFor m addresses old → StandsFor (next m) addresses new
 
 -- for whatever map the heap stood for, the name leads to a new record with this value at this address
 abbrev pub IsNew : HeapView → ℕ → List ℕ → ℕ → HeapView → Type 0
 IsNew old name value b new =
-    (m : RecordMap) (addresses : List ℕ) → IsValid m → StandsFor m addresses old.heap → StandsFor (put_step m name value (id_of m name)).map (addresses ++ b ∷ []) new.heap
+    (m : RecordMap) (addresses : List ℕ) → StandsFor m addresses old.heap → StandsFor (put_step m name value (id_of m name)).map (addresses ++ b ∷ []) new.heap
 
 -- the buffer is of these cells, and constructed
-pub record IsReady (cells : List TableId) (buf : BufState Object) : Type 0 where
+pub record IsBlankBuffer (cells : List TableId) (buf : BufState Object) : Type 0 where
   pub of : IsBufferOf cells buf
   pub blank : buf.object ≡ blank
 
 -- the record of the name ended by its deletion, and this is its buffer
 pub record IsHandedOut (old : HeapView) (name : ℕ) (buf : BufState Object) (new : HeapView) : Type 0 where
-  pub ready : IsReady old.home.cells buf
-  pub ended : (m : RecordMap) (addresses : List ℕ) → IsValid m → StandsFor m addresses old.heap → (id : ℕ) → id_of m name ≡ Some id →
+  pub ready : IsBlankBuffer old.home.cells buf
+  pub ended : (m : RecordMap) (addresses : List ℕ) → StandsFor m addresses old.heap → (id : ℕ) → id_of m name ≡ Some id →
       (is_live (del_step m name (id_of m name)).map id ≡ false) × (address_in addresses id ≡ buf.number)
   pub address : address_of old.heap name ≡ Some buf.number
-  pub places : places_of new.heap ≡ slice_set (places_of old.heap) buf.number false
+  pub places : places_of new.heap.objects ≡ slice_set (places_of old.heap.objects) buf.number false
 
 -- the record of the name, if there is one, lives on after its deletion
 pub record IsKeptOn (old : HeapView) (name : ℕ) (new : HeapView) : Type 0 where
-  pub lives : (m : RecordMap) (addresses : List ℕ) → IsValid m → StandsFor m addresses old.heap → (id : ℕ) → id_of m name ≡ Some id →
+  pub lives : (m : RecordMap) (addresses : List ℕ) → StandsFor m addresses old.heap → (id : ℕ) → id_of m name ≡ Some id →
       is_live (del_step m name (id_of m name)).map id ≡ true
-  pub places : places_of new.heap ≡ places_of old.heap
+  pub places : places_of new.heap.objects ≡ places_of old.heap.objects

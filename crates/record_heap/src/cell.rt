@@ -2,7 +2,7 @@
 ghost use Rattle.std.specs.Prelude.{◌≡◌, ◌+◌, ◌-◌, ◌<◌, ◌≤◌, ◌==◌, ◌^◌, Some, length};
 ghost use Rattle.kmem_model.specs.Heap.{blank};
 ghost use Rattle.kmem_model.specs.Says.{answer_about};
-ghost use Rattle.record_heap.specs.Answers.{said_of};
+ghost use Rattle.kmem_answers.specs.Words.{said_of};
 ghost use Rattle.record_heap.specs.Objects.{with_value, with_fixed, with_back, without_back, held_more, held_less, is_unused};
 
 use arrayvec::ArrayVec;

@@ -1,6 +1,6 @@
 //! The record heap.
 ghost use Rattle.std.specs.Prelude.{◌≡◌, ◌≤◌, ◌<◌, ◌*◌, ◌+◌, ◌^◌, ℕ, true, false, List, [], Some, None, is_some, length, replicate, IfOk, IfSome};
-ghost use Rattle.kmem_model.specs.Records.{RecordMap, IsValid, no_records, id_of, least_name, present_count, live_count, tag_place};
+ghost use Rattle.kmem_model.specs.Records.{RecordMap, no_records, id_of, least_name, present_count, live_count, tag_place};
 ghost use Rattle.kmem_model.specs.RecordStep.{stays, get_step, at_step};
 ghost use Rattle.kmem_model.specs.Heap.{StandsFor, address_of, hold_at, object_at, kept_count, leftover_count};
 ghost use Rattle.record_heap.specs.View.{IsReplyBy};
@@ -13,6 +13,7 @@ mod put;
 use crate::cell::RecordKind;
 use crate::parts::Parts;
 use kmem_buf::{Cells, Home};
+use kmem_model::law_step;
 use kmem_text::{NameId, Reply};
 pub use put::{Offer, PutEnd};
 use std::alloc::{AllocError, Global};
@@ -56,6 +57,7 @@ impl RecordHeap {
         ensures holds { IfOk result (λ h. length h.holds ≡ 8 * workers) }
         ensures stands { IfOk result (λ h. StandsFor (no_records names workers) [] h.heap) }
     {
+        law_step();
         Ok(RecordHeap {
             parts: Parts::create(alloc, home, names, buffers, workers)?,
             present: 0,

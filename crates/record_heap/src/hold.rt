@@ -2,7 +2,6 @@
 ghost use Rattle.std.specs.Prelude.{◌≡◌, ◌≤◌, ◌<◌, ◌*◌, true, false, Some, None, length, replicate, slice_get, slice_set, slice_index_or, IfOk};
 ghost use Rattle.kmem_model.specs.Records.{tag_place};
 ghost use Rattle.record_heap.specs.View.{IsHoldAt};
-ghost use Rattle.record_heap.specs.Tags.{AreFree};
 
 use kmem_buf::{Slip, Stub};
 use kmem_text::Tag;
@@ -26,9 +25,9 @@ impl Model for Hold {
 
     ghost coded = { hold_code };
 
-    ghost view = { λ h. record { worker = h.worker; tag = h.tag.0; address = h.address; home = h.slip.home } };
+    ghost view = { λ h. record { worker = h.worker; tag = h.tag; address = h.address; home = h.slip.home } };
 
-    ghost invariant = { λ h. (h.slip.facts ≡ hold_facts h.worker h.tag.0 h.address) × (1 ≤ h.worker) × (h.tag.0 < 8) };
+    ghost invariant = { λ h. (h.slip.facts ≡ hold_facts h.worker h.tag h.address) × (1 ≤ h.worker) × (h.tag < 8) };
 }
 
 impl Hold {
@@ -39,7 +38,7 @@ impl Hold {
     }
 
     pub fn tag(&self) -> Tag
-        ensures { result.0 ≡ self.now.tag }
+        ensures { result ≡ self.now.tag }
     {
         self.tag
     }
@@ -79,7 +78,7 @@ impl Tags {
         let count = 8 * workers;
         Ok(Tags {
             places: Vec::from_elem(alloc, None, count as usize)?,
-            stubs: stubs(alloc, count)?,
+            stubs: Stub::create_all(alloc, count)?,
         })
     }
 
@@ -94,11 +93,10 @@ impl Tags {
     /// The worker's tag holds the address from then on.
     pub fn hold(&mut self, worker: u32, tag: Tag, address: u32) -> Hold
         requires worker { 1 ≤ worker }
-        requires tag { tag.0 < 8 }
-        requires range { tag_place worker tag.0 < length self.old.tags }
-        requires idle { slice_index_or self.old.tags (tag_place worker tag.0) None ≡ None }
-        ensures tags { self.new ≡ record self.old { tags = slice_set self.old.tags (tag_place worker tag.0) (Some address) } }
-        ensures facts { (result.worker ≡ worker) × (result.tag ≡ tag.0) × (result.address ≡ address) }
+        requires range { tag_place worker tag < length self.old.tags }
+        requires idle { slice_index_or self.old.tags (tag_place worker tag) None ≡ None }
+        ensures tags { self.new ≡ record self.old { tags = slice_set self.old.tags (tag_place worker tag) (Some address) } }
+        ensures facts { (result.worker ≡ worker) × (result.tag ≡ tag) × (result.address ≡ address) }
         ensures home { IsHoldAt self.old.stubs result }
     {
         let place = place_of(worker, tag);
@@ -108,7 +106,7 @@ impl Tags {
             worker,
             tag,
             address,
-            slip: stub.issue([u64::from(worker), u64::from(tag.0), u64::from(address)]),
+            slip: stub.issue([u64::from(worker), u64::from(tag.number()), u64::from(address)]),
         }
     }
 
@@ -145,19 +143,8 @@ impl Tags {
 /// The place of a worker's tag.
 pub fn place_of(worker: u32, tag: Tag) -> usize
     requires { 1 ≤ worker }
-    ensures { result ≡ tag_place worker tag.0 }
+    ensures place { result ≡ tag_place worker tag }
+    ensures low { result < 8 * worker }
 {
-    8 * (worker as usize - 1) + tag.0 as usize
-}
-
-// Stubs that are not issued.
-fn stubs(alloc: Global, count: u32) -> Result<Vec<Stub>, AllocError>
-    ensures count { IfOk result (λ stubs. length stubs.items ≡ count) }
-    ensures free { IfOk result (λ stubs. AreFree stubs.items) }
-{
-    let mut stubs = Vec::with_capacity(alloc, count as usize)?;
-    for _ in 0..count {
-        stubs.push(Stub::create(alloc)?)?;
-    }
-    Ok(stubs)
+    8 * (worker as usize - 1) + usize::from(tag.number())
 }

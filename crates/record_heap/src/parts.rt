@@ -4,12 +4,12 @@ ghost use Rattle.std.specs.List.{list_any};
 ghost use Rattle.kmem_buf.specs.Homes.{IsBufferOf};
 ghost use Rattle.kmem_model.specs.CacheOrder.{is_the, least_below};
 ghost use Rattle.kmem_model.specs.Records.{tag_place};
-ghost use Rattle.kmem_model.specs.Heap.{Object, blank, address_of, hold_at, object_at, is_leftover};
+ghost use Rattle.kmem_model.specs.Heap.{least_left_in, Object, blank, address_of, hold_at, object_at, is_leftover};
 ghost use Rattle.kmem_model.specs.Says.{says, relocated};
 ghost use Rattle.record_heap.specs.Objects.{held_less, is_unused};
-ghost use Rattle.record_heap.specs.View.{IsHoldAt, least_leftover};
+ghost use Rattle.record_heap.specs.View.{IsHoldAt};
 ghost use Rattle.record_heap.specs.Changes.{value_in, names_in, holds_in, with_object, changed_at, with_tag, valued, fixed_at, linked, unlinked, tagged, made};
-ghost use Rattle.record_heap.specs.Answers.{said_of};
+ghost use Rattle.kmem_answers.specs.Words.{said_of};
 
 use crate::cell::{RecordCell, RecordKind};
 use crate::hold::{Hold, Tags, place_of};
@@ -134,7 +134,7 @@ impl Parts {
 
     /// The least address of a leftover.
     pub fn first_leftover(&self) -> Option<u32>
-        ensures least { result ≡ least_leftover self.now.heap }
+        ensures least { result ≡ least_left_in self.now.heap }
         ensures found { IfSome result (λ b. is_leftover (object_at self.now.heap b) ≡ true) }
     {
         self.shelf.first_leftover()
@@ -285,9 +285,9 @@ impl Parts {
 
     /// Whether the worker's tag is in use.
     pub fn is_used(&self, worker: u32, tag: Tag) -> bool
-        requires worker { 1 ≤ worker }
-        requires range { tag_place worker tag.0 < length self.now.heap.tags }
-        ensures { result ≡ is_some (hold_at self.now.heap (tag_place worker tag.0)) }
+        requires { (1 ≤ worker) × (8 * worker ≤ length self.now.heap.tags) }
+        ensures used { result ≡ is_some (hold_at self.now.heap (tag_place worker tag)) }
+        ensures low { tag_place worker tag < 8 * worker }
     {
         self.tags.at(place_of(worker, tag)).is_some()
     }
@@ -295,13 +295,12 @@ impl Parts {
     /// The worker's tag holds the record at the address from then on.
     pub fn hold(&mut self, worker: u32, tag: Tag, b: u32) -> Hold
         requires worker { 1 ≤ worker }
-        requires tag { tag.0 < 8 }
-        requires range { tag_place worker tag.0 < length self.old.heap.tags }
-        requires idle { hold_at self.old.heap (tag_place worker tag.0) ≡ None }
+        requires range { tag_place worker tag < length self.old.heap.tags }
+        requires idle { hold_at self.old.heap (tag_place worker tag) ≡ None }
         requires object { is_some (object_at self.old.heap b) ≡ true }
         requires few { holds_in self.old.heap b + 1 < 2 ^ 32 }
-        ensures parts { self.new ≡ record self.old { heap = tagged self.old.heap (tag_place worker tag.0) b } }
-        ensures hold { (result.worker ≡ worker) × (result.tag ≡ tag.0) × (result.address ≡ b) × IsHoldAt self.old.holds result }
+        ensures parts { self.new ≡ record self.old { heap = tagged self.old.heap (tag_place worker tag) b } }
+        ensures hold { (result.worker ≡ worker) × (result.tag ≡ tag) × (result.address ≡ b) × IsHoldAt self.old.holds result }
     {
         let hold = self.tags.hold(worker, tag, b);
         let mut buf = self.shelf.take(b);

@@ -3,7 +3,7 @@ ghost use Rattle.std.specs.Prelude.{◌≡◌, ◌<◌, All, length, IfSome, IfO
 ghost use Rattle.kmem_buf.specs.Homes.{IsBufferOf, cell_homes};
 ghost use Rattle.kmem_buf.specs.Answers.{buffers_back};
 ghost use Rattle.kmem_model.specs.Heap.{blank};
-ghost use Rattle.record_heap.specs.View.{IsReady};
+ghost use Rattle.record_heap.specs.View.{IsBlankBuffer};
 ghost use Rattle.record_heap.specs.Puts.{IsReadyOffer};
 
 mod commands;
@@ -93,7 +93,7 @@ impl Row {
     fn take(&mut self, number: u32) -> Option<Buf<RecordKind>>
         requires { number < length self.old }
         ensures homes { cell_homes self.new ≡ cell_homes self.old }
-        ensures ready { IfSome result (IsReady (cell_homes self.old)) }
+        ensures ready { IfSome result (IsBlankBuffer (cell_homes self.old)) }
     {
         let cell = &mut self.cells[number as usize];
         if cell.is_out() {
@@ -109,7 +109,7 @@ impl Row {
     // The free buffer with the least number.
     fn take_any(&mut self) -> Option<Buf<RecordKind>>
         ensures homes { cell_homes self.new ≡ cell_homes self.old }
-        ensures ready { IfSome result (IsReady (cell_homes self.old)) }
+        ensures ready { IfSome result (IsBlankBuffer (cell_homes self.old)) }
     {
         for number in 0..4 {
             if (number as usize) < self.cells.len() {
@@ -122,7 +122,7 @@ impl Row {
     }
 
     fn give(&mut self, buf: Buf<RecordKind>)
-        requires { IsReady (cell_homes self.old) buf }
+        requires { IsBlankBuffer (cell_homes self.old) buf }
         ensures { cell_homes self.new ≡ cell_homes self.old }
     {
         let cell = &mut self.cells[buf.number() as usize];
@@ -211,7 +211,7 @@ impl Bench {
 
     #[tactic(auto, using(crate::proofs::Benches::still, crate::proofs::Benches::renewed))]
     fn take_back(&mut self, buf: Option<Buf<RecordKind>>)
-        requires { IfSome buf (IsReady self.old.home.cells) }
+        requires { IfSome buf (IsBlankBuffer self.old.home.cells) }
     {
         if let Some(buf) = buf {
             self.row.give(buf);
@@ -273,7 +273,7 @@ impl Bench {
     fn hold(&mut self, tag: u8, name: u32) -> Shown
         requires { (tag < 8) × (name < 16) }
     {
-        let (reply, hold) = self.heap.hold(2, Tag(tag), NameId(name));
+        let (reply, hold) = self.heap.hold(2, Tag::new(tag), NameId(name));
         self.hold = hold;
         show(reply)
     }

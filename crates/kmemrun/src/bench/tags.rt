@@ -71,9 +71,8 @@ impl Bench {
 // The place of a worker's tag.
 fn place_of(worker: u32, tag: Tag) -> usize
     requires worker { (0 < worker) × (worker ≤ 16) }
-    requires tag { tag.0 < 8 }
-    ensures place { result ≡ tag_place worker tag.0 }
+    ensures place { result ≡ tag_place worker tag }
     ensures within { result < 128 }
 {
-    8 * (worker as usize - 1) + tag.0 as usize
+    8 * (worker as usize - 1) + usize::from(tag.number())
 }

@@ -5,7 +5,7 @@ ghost use Rattle.kmem_buf.specs.Homes.{IsBufferOf};
 ghost use Rattle.kmem_model.specs.CacheState.{is_out};
 ghost use Rattle.kmem_model.specs.CacheOrder.{chosen, is_idle, is_off};
 ghost use Rattle.kmem_model.specs.CacheEnter.{enter, all_freed, with_answer, without_move};
-ghost use Rattle.kmem_model.specs.CacheHistory.{IsLegal};
+ghost use Rattle.kmem_model.specs.CacheHistory.{MayEnter};
 ghost use Rattle.kmem_model.specs.declared.cache_entry.CacheEntry.TheVariants.{Scan, Begin, Idle, Gone, End, Forget};
 ghost use Rattle.slab_list.specs.Slabs.{mode_of};
 ghost use Rattle.kmem_answers.specs.Words.{said_of};
@@ -43,7 +43,7 @@ impl<K: Kind> ObjectCache<K> {
         ensures entry { IfOk result (λ job. enter self.old.state (Begin job.move.no job.move.from job.move.to) ≡ Some self.new.state) }
         ensures job { IfOk result (IsJobOf K.constructed self.old.home) }
         ensures range { IfOk result (λ job. job.move.from < length self.old.home.cells) }
-        ensures idle { (result ≡ Err BeginRefused.Idle) ↔ IsLegal self.old.state Idle }
+        ensures idle { (result ≡ Err BeginRefused.Idle) ↔ MayEnter self.old.state Idle }
         ensures idle_entry { result ≡ Err BeginRefused.Idle → enter self.old.state Idle ≡ Some self.new.state }
         ensures memory { K.never_refuses ≡ true → result ≢ Err BeginRefused.NoMemory }
         ensures refused { OnErr result (self.new ≡ self.old) }

@@ -2,11 +2,11 @@
 ghost use Rattle.std.specs.Prelude.{◌≡◌, ◌≤◌, ◌<◌, ℕ, true, false, List, Some, None, IfSome, IfNone, slice_set, length};
 ghost use Rattle.kmem_buf.specs.Homes.{IsBufferOf};
 ghost use Rattle.kmem_buf.specs.Answers.{IsAnswerTo, verdict_of};
-ghost use Rattle.kmem_model.specs.Records.{RecordMap, IsValid};
-ghost use Rattle.kmem_model.specs.Heap.{blank, places_of, StandsFor, object_at, is_leftover};
+ghost use Rattle.kmem_model.specs.Records.{RecordMap};
+ghost use Rattle.kmem_model.specs.Heap.{least_left_in, blank, places_of, StandsFor, object_at, is_leftover};
 ghost use Rattle.kmem_model.specs.Says.{says, heap_after, addresses_after};
-ghost use Rattle.record_heap.specs.View.{IsFrame, least_leftover};
-ghost use Rattle.record_heap.specs.Answers.{said_of};
+ghost use Rattle.record_heap.specs.View.{IsFrame};
+ghost use Rattle.kmem_answers.specs.Words.{said_of};
 
 use super::RecordHeap;
 use crate::cell::RecordKind;
@@ -22,7 +22,7 @@ impl RecordHeap {
         ensures answer { said_of (verdict_of result) ≡ says self.old.heap true from }
         ensures buffers { IsAnswerTo (λ o. o ≡ blank) self.old.home.cells from to.number result }
         ensures heap { self.new.heap ≡ heap_after self.old.heap from to.number (says self.old.heap true from) }
-        ensures stands { (m : RecordMap) (addresses : List ℕ) → IsValid m → StandsFor m addresses self.old.heap → StandsFor m (addresses_after addresses from to.number (says self.old.heap true from)) self.new.heap }
+        ensures stands { (m : RecordMap) (addresses : List ℕ) → StandsFor m addresses self.old.heap → StandsFor m (addresses_after addresses from to.number (says self.old.heap true from)) self.new.heap }
         ensures empty { object_at self.old.heap to.number ≡ None }
         ensures frame { IsFrame self.old self.new }
     {
@@ -42,11 +42,11 @@ impl RecordHeap {
 
     /// Takes the leftover with the least address, if there is one.
     pub fn take_leftover(&mut self) -> Option<Buf<RecordKind>>
-        ensures none { IfNone result (least_leftover self.old.heap ≡ None) }
-        ensures buf { IfSome result (λ buf. (least_leftover self.old.heap ≡ Some buf.number) × (buf.object ≡ blank) × IsBufferOf self.old.home.cells buf) }
+        ensures none { IfNone result (least_left_in self.old.heap ≡ None) }
+        ensures buf { IfSome result (λ buf. (least_left_in self.old.heap ≡ Some buf.number) × (buf.object ≡ blank) × IsBufferOf self.old.home.cells buf) }
         ensures stays { IfNone result (self.new ≡ self.old) }
-        ensures stands { (m : RecordMap) (addresses : List ℕ) → IsValid m → StandsFor m addresses self.old.heap → StandsFor m addresses self.new.heap }
-        ensures places { IfSome result (λ buf. places_of self.new.heap ≡ slice_set (places_of self.old.heap) buf.number false) }
+        ensures stands { (m : RecordMap) (addresses : List ℕ) → StandsFor m addresses self.old.heap → StandsFor m addresses self.new.heap }
+        ensures places { IfSome result (λ buf. places_of self.new.heap.objects ≡ slice_set (places_of self.old.heap.objects) buf.number false) }
         ensures frame { IsFrame self.old self.new }
     {
         let b = self.first_leftover()?;
@@ -56,7 +56,7 @@ impl RecordHeap {
 
     /// The least address of a leftover. Where there is none, no object is looked at.
     pub(crate) fn first_leftover(&self) -> Option<u32>
-        ensures least { result ≡ least_leftover self.now.heap }
+        ensures least { result ≡ least_left_in self.now.heap }
         ensures found { IfSome result (λ b. is_leftover (object_at self.now.heap b) ≡ true) }
     {
         if self.leftovers == 0 {

@@ -1,7 +1,7 @@
 //! Commands on names.
 ghost use Rattle.std.specs.Prelude.{◌≡◌, ◌<◌, ℕ, true, false, List, Some, IfSome, IfNone, slice_set, length};
 ghost use Rattle.kmem_buf.specs.Homes.{IsBufferOf};
-ghost use Rattle.kmem_model.specs.Records.{RecordMap, IsValid, id_of, is_live};
+ghost use Rattle.kmem_model.specs.Records.{RecordMap, id_of, is_live};
 ghost use Rattle.kmem_model.specs.RecordStep.{del_step, link_step, fix_step};
 ghost use Rattle.kmem_model.specs.Heap.{blank, places_of, StandsFor, address_of};
 ghost use Rattle.record_heap.specs.View.{IsReplyBy, IsStepBy, IsFrame, IsHandedOut, IsKeptOn};
@@ -9,6 +9,7 @@ ghost use Rattle.record_heap.specs.View.{IsReplyBy, IsStepBy, IsFrame, IsHandedO
 use super::RecordHeap;
 use crate::cell::RecordKind;
 use kmem_buf::Buf;
+use kmem_model::law_step;
 use kmem_text::{NameId, Reply};
 
 impl RecordHeap {
@@ -21,6 +22,7 @@ impl RecordHeap {
         ensures kept { IfNone result.1 (IsKeptOn self.old name.0 self.new) }
         ensures frame { IsFrame self.old self.new }
     {
+        law_step();
         let Some(b) = self.parts.address(name) else {
             return (Reply::Absent, None);
         };
@@ -39,9 +41,10 @@ impl RecordHeap {
         requires { (name.0 < length self.old.heap.names) × (other.0 < length self.old.heap.names) }
         ensures reply { IsReplyBy self.old.heap (λ m. (link_step m other.0 (id_of m name.0)).reply) result }
         ensures stands { IsStepBy self.old.heap self.new.heap (λ m. (link_step m other.0 (id_of m name.0)).map) }
-        ensures places { places_of self.new.heap ≡ places_of self.old.heap }
+        ensures places { places_of self.new.heap.objects ≡ places_of self.old.heap.objects }
         ensures frame { IsFrame self.old self.new }
     {
+        law_step();
         let Some(b) = self.parts.address(name) else {
             return Reply::Absent;
         };
@@ -61,7 +64,7 @@ impl RecordHeap {
         requires { name.0 < length self.old.heap.names }
         ensures reply { IsReplyBy self.old.heap (λ m. (fix_step m true (id_of m name.0)).reply) result }
         ensures stands { IsStepBy self.old.heap self.new.heap (λ m. (fix_step m true (id_of m name.0)).map) }
-        ensures places { places_of self.new.heap ≡ places_of self.old.heap }
+        ensures places { places_of self.new.heap.objects ≡ places_of self.old.heap.objects }
         ensures frame { IsFrame self.old self.new }
     {
         self.set_fixed(name, true)
@@ -72,7 +75,7 @@ impl RecordHeap {
         requires { name.0 < length self.old.heap.names }
         ensures reply { IsReplyBy self.old.heap (λ m. (fix_step m false (id_of m name.0)).reply) result }
         ensures stands { IsStepBy self.old.heap self.new.heap (λ m. (fix_step m false (id_of m name.0)).map) }
-        ensures places { places_of self.new.heap ≡ places_of self.old.heap }
+        ensures places { places_of self.new.heap.objects ≡ places_of self.old.heap.objects }
         ensures frame { IsFrame self.old self.new }
     {
         self.set_fixed(name, false)
@@ -82,9 +85,10 @@ impl RecordHeap {
         requires { name.0 < length self.old.heap.names }
         ensures reply { IsReplyBy self.old.heap (λ m. (fix_step m fixed (id_of m name.0)).reply) result }
         ensures stands { IsStepBy self.old.heap self.new.heap (λ m. (fix_step m fixed (id_of m name.0)).map) }
-        ensures places { places_of self.new.heap ≡ places_of self.old.heap }
+        ensures places { places_of self.new.heap.objects ≡ places_of self.old.heap.objects }
         ensures frame { IsFrame self.old self.new }
     {
+        law_step();
         let Some(b) = self.parts.address(name) else {
             return Reply::Absent;
         };

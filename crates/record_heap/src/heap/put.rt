@@ -8,6 +8,7 @@ ghost use Rattle.record_heap.specs.Puts.{IsReadyOffer, IsReplaced, IsPutNew, off
 use super::RecordHeap;
 use crate::cell::RecordKind;
 use kmem_buf::{Buf, FullNote};
+use kmem_model::law_step;
 use kmem_text::{NameId, Reply, Value};
 
 /// What a put may take for a new record.
@@ -52,6 +53,7 @@ impl RecordHeap {
         ensures put { IsReplaced self.old name.0 value offer result self.new }
         ensures frame { IsFrame self.old self.new }
     {
+        law_step();
         let _ = name;
         let old = self.parts.value(b);
         self.parts.set_value(b, value);
@@ -88,9 +90,10 @@ impl RecordHeap {
         requires buf { IsBufferOf self.old.home.cells buf × (buf.object ≡ blank) }
         ensures empty { object_at self.old.heap buf.number ≡ None }
         ensures new { IsNew self.old name.0 value buf.number self.new }
-        ensures places { places_of self.new.heap ≡ slice_set (places_of self.old.heap) buf.number true }
+        ensures places { places_of self.new.heap.objects ≡ slice_set (places_of self.old.heap.objects) buf.number true }
         ensures frame { IsFrame self.old self.new }
     {
+        law_step();
         self.parts.make(name, value, buf);
         self.present += 1;
         self.records += 1;
@@ -101,9 +104,10 @@ impl RecordHeap {
         requires absent { address_of self.old.heap name.0 ≡ None }
         requires leftover { is_leftover (object_at self.old.heap b) ≡ true }
         ensures new { IsNew self.old name.0 value b self.new }
-        ensures places { places_of self.new.heap ≡ places_of self.old.heap }
+        ensures places { places_of self.new.heap.objects ≡ places_of self.old.heap.objects }
         ensures frame { IsFrame self.old self.new }
     {
+        law_step();
         self.parts.reuse(name, value, b);
         self.present += 1;
         self.records += 1;

@@ -12,20 +12,21 @@ use Rattle.kmem_model.specs.Settle.{Stage, Course, gains, said_at}
 use Rattle.kmem_model.specs.SettleTurns.{course_moved, IsMoveOn}
 use Rattle.kmem_model.specs.declared.cache_entry.Said.{Said}
 use Rattle.object_cache.specs.Cache.{CacheView}
-use Rattle.object_cache.specs.Modes.{said_of}
+use Rattle.kmem_answers.specs.Words.{said_of}
 use Rattle.object_cache.specs.Moves.{PendingState, JobState}
 use Rattle.object_cache.specs.declared.cache.BeginRefused.{BeginRefused}
 use Rattle.object_cache.specs.declared.cache.BeginRefused.TheVariants.{Idle, NoMemory}
 use Rattle.object_cache.specs.declared.tally.Tally.{Tally}
 use Rattle.consolidator.specs.Tallies.{counted}
-use Rattle.consolidator.specs.Settles.{ScansTo, IsOnScan}
-use Rattle.consolidator.proofs.Turns.{heap_still, same_said, IsAnswered, answered_at, one_move, says_next, on_scan_more, ends_same, scans_to, legal_idle, or_true}
+use Rattle.consolidator.specs.Settles.{ScansTo}
+use Rattle.consolidator.proofs.Within.{IsOnScan}
+use Rattle.consolidator.proofs.Turns.{heap_still, IsAnswered, answered_at, one_move, says_next, on_scan_more, ends_same, scans_to, legal_idle, or_true}
 use Rattle.consolidator.proofs.scans.scan.Goals as goal
 use Rattle.consolidator.proofs.scans.scan.Goals.{then-gained, else-gained}
 
 pub moves-init : goal.moves-init
 moves-init c =
-    let begun = c.law_moves.ensures.started (stage_in c.args.cache.now.state c.args.heap.now.heap) c.start_scan.new.self.state c.requires.whole c.start_scan.ensures.entry in
+    let begun = c.law_moves.ensures.started (stage_in c.args.cache.now.state c.args.heap.now.heap.objects) c.start_scan.new.self.state c.requires.whole c.start_scan.ensures.entry in
     record {
       home = c.start_scan.ensures.home;
       on = record { moves = []; whole = begun.0; same = sym begun.1; flag = refl; counts = refl; heap_moves = heap_still c.args.heap.now };
@@ -35,7 +36,7 @@ moves-init c =
 
 -- the course at the loop's head
 abbrev now : goal.After-end → Course
-now c = record { stage = stage_in c.moves.cache.state c.moves.heap.heap; moves = c.moves.invariant.on.moves }
+now c = record { stage = stage_in c.moves.cache.state c.moves.heap.heap.objects; moves = c.moves.invariant.on.moves }
 
 move_is : (c : goal.After-end) → c.part-pending.result.0 ≡ c.in-Ok.job.move
 move_is c = c.part-pending.ensures.0 ∙ ap (λ (k : JobState Object). k.move) c.in-Some.ensures.kept.0
@@ -54,10 +55,9 @@ said c = said_at (now c).stage c.in-Ok.job.move.from
 
 said_is : (c : goal.After-end) → said_of (verdict_of c.answer_move-answer.result) ≡ said c
 said_is c =
-    sym (same_said (verdict_of c.answer_move-answer.result))
-    ∙ (c.answer_move-answer.ensures.answer
+    c.answer_move-answer.ensures.answer
     ∙ (ap (says c.moves.heap.heap true) (from_is c)
-    ∙ sym (c.law_stage.ensures.said c.moves.cache.state c.moves.heap.heap c.in-Ok.job.move.from)))
+    ∙ sym (c.law_stage.ensures.said c.moves.cache.state c.moves.heap.heap c.in-Ok.job.move.from))
 
 answered : (c : goal.After-end) → IsAnswered c.moves.heap c.answer_move-answer.new.self c.in-Ok.job.move.from c.in-Ok.job.move.to
 answered c =
@@ -126,11 +126,11 @@ returns-in-Err-clause-scan c =
     (λ (v : CacheView). ScansTo c.args.cache.now.state v.state c.args.heap.now c.moves.heap c.args.tally.now c.moves.tally c.moves.gained)
     (sym c.in-Err.ensures.refused)
     (scans_to c.args.cache.now.state c.moves.cache.state c.args.heap.now c.moves.heap c.args.tally.now c.moves.tally c.moves.gained c.moves.invariant.on
-    (c.law_moves.ensures.idle (record { stage = stage_in c.moves.cache.state c.moves.heap.heap; moves = c.moves.invariant.on.moves }) (idle_is c)))
+    (c.law_moves.ensures.idle (record { stage = stage_in c.moves.cache.state c.moves.heap.heap.objects; moves = c.moves.invariant.on.moves }) (idle_is c)))
 
 pub returns-in_default-clause-scan : goal.returns-in_default-clause-scan
 returns-in_default-clause-scan c =
-    let begun = c.law_moves.ensures.begun (stage_in c.moves.cache.state c.moves.heap.heap) c.in-Ok.job.move.no c.in-Ok.job.move.from c.in-Ok.job.move.to c.begin.new.self.state
+    let begun = c.law_moves.ensures.begun (stage_in c.moves.cache.state c.moves.heap.heap.objects) c.in-Ok.job.move.no c.in-Ok.job.move.from c.in-Ok.job.move.to c.begin.new.self.state
     c.moves.invariant.on.whole c.in-Ok.ensures.entry in
     absurd (false≢true (c.in_default.ensures.out.1 begun.0))
 
@@ -138,7 +138,7 @@ returns-in_default-clause-scan c =
 
 pub answer_move-answer-requires-clause-from : goal.answer_move-answer-requires-clause-from
 answer_move-answer-requires-clause-from c =
-    let stage : Stage = stage_in c.moves.cache.state c.moves.heap.heap in
+    let stage : Stage = stage_in c.moves.cache.state c.moves.heap.heap.objects in
     let begun = c.law_moves.ensures.begun stage c.in-Ok.job.move.no c.in-Ok.job.move.from c.in-Ok.job.move.to c.begin.new.self.state
     c.moves.invariant.on.whole c.in-Ok.ensures.entry in
     let from : c.from.result ≡ c.in-Ok.job.move.from =

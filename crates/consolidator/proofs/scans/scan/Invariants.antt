@@ -1,7 +1,7 @@
 use Rattle.std.proofs.Common.{◌≡◌}
 use Rattle.kmem_model.specs.Says.{stage_in}
 use Rattle.kmem_model.specs.SettleMeasure.{moves_left}
-use Rattle.consolidator.specs.Settles.{IsOnScan}
+use Rattle.consolidator.proofs.Within.{IsOnScan}
 use Rattle.consolidator.proofs.scans.scan.Given as goal
 
 abbrev pub invariant-moves : goal.invariant-moves
@@ -12,4 +12,4 @@ invariant-moves l =
     }
 
 abbrev pub decreases-moves : goal.decreases-moves
-decreases-moves l = moves_left (stage_in l.cache.state l.heap.heap)
+decreases-moves l = moves_left (stage_in l.cache.state l.heap.heap.objects)

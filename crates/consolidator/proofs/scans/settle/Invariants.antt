@@ -1,7 +1,7 @@
 use Rattle.std.proofs.Common.{◌≡◌}
 use Rattle.kmem_model.specs.Says.{stage_in}
 use Rattle.kmem_model.specs.SettleMeasure.{scans_left}
-use Rattle.consolidator.specs.Settles.{IsOnSettle}
+use Rattle.consolidator.proofs.Within.{IsOnSettle}
 use Rattle.consolidator.proofs.scans.settle.Given as goal
 
 abbrev pub invariant-scans : goal.invariant-scans
@@ -12,4 +12,4 @@ invariant-scans l =
     }
 
 abbrev pub decreases-scans : goal.decreases-scans
-decreases-scans l = scans_left (stage_in l.cache.state l.heap.heap)
+decreases-scans l = scans_left (stage_in l.cache.state l.heap.heap.objects)

@@ -1,4 +1,4 @@
-use Rattle.kmem_model.proofs.OneSteps.{start_ends, looking_ends, idle_ends, leaving_ends, replaced_ends, made_ends, reused_ends, refused_ends, kept_ends, ended_ends, maps_are, one_tags_stay}
+use Rattle.kmem_model.proofs.OneSteps.{start_ends, looking_ends, idle_ends, leaving_ends, replaced_ends, made_ends, reused_ends, refused_ends, kept_ends, ended_ends, maps_are, one_tags_stay, full_ends}
 use Rattle.kmem_model.proofs.StepReplies.{one_within}
 use Rattle.kmem_model.proofs.record_laws.law_one_step.Goals as goal
 
@@ -40,3 +40,6 @@ returns-clause-maps c = λ s worker command. maps_are s worker command
 
 pub returns-clause-tags : goal.returns-clause-tags
 returns-clause-tags c = λ s worker command. one_tags_stay s worker command
+
+pub returns-clause-full : goal.returns-clause-full
+returns-clause-full c = λ s h worker command stands. full_ends s h worker command stands

@@ -1,11 +1,12 @@
-use Rattle.kmem_report.proofs.Left.{head_front, then_whole, then_front}
+use Rattle.kmem_model.specs.Report.{report_line}
+use Rattle.kmem_report.proofs.Left.{front_of_head, whole_behind, front_behind}
 use Rattle.kmem_report.proofs.report.write_report.Goals as goal
 
 pub returns-in_err-write_all-clause-front : goal.returns-in_err-write_all-clause-front
-returns-in_err-write_all-clause-front g c = head_front _ _ c.put_head-at.new.room _ _ c.put_head-at.result c.put_head-at.ensures.text c.in_err-write_all.ensures.front
+returns-in_err-write_all-clause-front g c = front_of_head _ _ report_line _ c.in_err-write_all.ensures.front
 
 pub returns-clause-whole : goal.returns-clause-whole
-returns-clause-whole g c = then_whole _ _ _ c.put_head-at.new.room _ _ c.put_head-at.result c.write_slabs.result c.put_head-at.ensures.text c.in_ok-write_all.ensures.whole c.write_slabs.ensures.whole
+returns-clause-whole g c = whole_behind _ _ _ report_line _ c.write_part.result c.in_ok-write_all.ensures.whole c.write_part.ensures.whole
 
 pub returns-clause-front : goal.returns-clause-front
-returns-clause-front g c = then_front _ _ _ c.put_head-at.new.room _ _ c.put_head-at.result c.put_head-at.ensures.text c.in_ok-write_all.ensures.whole c.write_slabs.ensures.front
+returns-clause-front g c = front_behind _ _ _ report_line _ c.in_ok-write_all.ensures.whole c.write_part.ensures.front

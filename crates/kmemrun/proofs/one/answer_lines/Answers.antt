@@ -1,9 +1,13 @@
-use Rattle.std.proofs.Common.{◌≡◌, ◌<◌, ◌+◌, ◌++◌, ℕ, List, [], ◌∷◌, length, take, drop, refl, sym, ap, ◌∙◌, subst, arith}
+use Rattle.std.proofs.Common.{◌≡◌, ◌↔◌, true, ◌<◌, ◌+◌, ◌++◌, ℕ, List, [], ◌∷◌, length, take, drop, refl, sym, ap, ◌∙◌, subst, arith}
 use Rattle.kmem_text.specs.Replies.{reply_text}
+use Rattle.kmem_text.specs.declared.command.Line.{Line}
 use Rattle.kmem_text.specs.declared.command.Reply.{Reply}
-use Rattle.kmem_model.specs.OneRun.{OneRun, replies, reply_lines, lines_run, line_run}
+use Rattle.kmem_model.specs.OneRun.{OneRun, replies, reply_lines, lines_run, line_run, history_of}
+use Rattle.kmem_model.specs.One.{buffers_of, one_step}
+use Rattle.kmem_model.specs.History.{is_full_due, IsFullExactly}
+use Rattle.kmem_text.specs.declared.command.Reply.TheVariants.{Full}
 use Rattle.kmemrun.specs.Bench.{RunsAt, IsGoodLine}
-use Rattle.kmemrun.proofs.Pages.{one_more, last_moved, last_whole, next_reply, next_run, nothing_moved}
+use Rattle.kmemrun.proofs.Pages.{one_more, last_moved, last_whole, next_reply, next_run, next_full, nothing_moved}
 use Rattle.std.proofs.lemmas.Result.{on_ok_weaker}
 use Rattle.std.proofs.Math.ListN.{drop_of_length-le}
 use Rattle.std.proofs.lemmas.List.{append-nil}
@@ -19,7 +23,7 @@ loop-index-init g c =
       names = c.requires.names;
       faults = refl;
       stands = c.requires.stands;
-      written = λ start at. record { run = start; runs = at; written = nothing_moved _ _; rest = refl };
+      written = λ start at. record { run = start; runs = at; written = nothing_moved _ _; rest = refl; buffers = refl; full = λ from. from };
     }
 
 pub answer-reply-requires-clause-line : goal.answer-reply-requires-clause-line
@@ -55,6 +59,13 @@ loop-index-preserved g c =
                 (c.put_line-at.ensures.text ∙ ap (λ (reply : Reply). take c.in_ok-at.at c.loop-index.page ++ (reply_text names reply ++ 10 ∷ [])) does.replies)
                 (next_reply c.args.every names on.run lines i line small c.index.ensures);
             rest = on.rest ∙ next_run c.args.every on.run lines i line small c.index.ensures;
+            buffers = c.law_one.ensures.buffers c.args.every (i + 1) on.run line ∙ on.buffers;
+            full = λ from. on.full
+                (next_full c.args.every (buffers_of start.state.cache) on.run lines i line small c.index.ensures
+                (c.law_one.ensures.full (buffers_of start.state.cache) (i + 1) c.args.every on.run (take i lines) line (drop (i + 1) lines) (subst (λ (l : Line). 0 < l.worker) (sym c.index.ensures) (c.requires.within i line small).worker.0)
+                (subst (λ n. ((one_step on.run.state line.worker line.command).reply ≡ Full) ↔ (is_full_due n on.run.state.map line.command ≡ true)) on.buffers
+                (c.law_one_step.ensures.full on.run.state c.loop-index.bench.heap.heap line.worker line.command on.runs.stands.stands)))
+                from);
           };
     }
 
@@ -81,3 +92,9 @@ pub returns-clause-runs : goal.returns-clause-runs
 returns-clause-runs g c = on_ok_weaker c.write_all.result (λ whole start given.
     let on = c.loop-index.invariant.written start given in
     subst (λ (run : OneRun). RunsAt run c.loop-index.bench) (sym (on.rest ∙ ap (lines_run c.args.every (c.loop-index.index + 1) on.run) (none_left g c))) on.runs) c.write_all.ensures.whole
+
+pub returns-clause-full : goal.returns-clause-full
+returns-clause-full g c = on_ok_weaker c.write_all.result (λ whole start given.
+    let on = c.loop-index.invariant.written start given in
+    on.full
+    (subst (λ ls. IsFullExactly (buffers_of start.state.cache) on.run.state.map (history_of c.args.every (c.loop-index.index + 1) on.run (take c.loop-index.index c.args.script.now.lines.items) ls)) (sym (none_left g c)) tt)) c.write_all.ensures.whole

@@ -1,6 +1,7 @@
 use Rattle.std.proofs.Common.{◌≡◌, ◌≤◌, length, take}
 use Rattle.kmem_model.specs.OneRun.{OneRun}
-use Rattle.kmemrun.specs.Bench.{Stands, RunsAt, IsOnPage}
+use Rattle.kmemrun.specs.Bench.{Stands, RunsAt}
+use Rattle.kmemrun.proofs.Within.{IsOnPage}
 use Rattle.kmemrun.proofs.one.answer_lines.Given as goal
 
 -- of the replies to all lines, what isn't written yet stands in the page, or is the reply to a line that is left

@@ -8,7 +8,7 @@ use Rattle.kmem_model.specs.CacheState.{CacheState}
 use Rattle.kmem_model.specs.CacheEnter.{enter}
 use Rattle.kmem_model.specs.declared.cache_entry.CacheEntry.TheVariants.{Free}
 use Rattle.kmemrun.specs.Bench.{BenchView, StandsAt}
-use Rattle.kmemrun.proofs.Benches.{range_of, carried, held_same}
+use Rattle.kmemrun.proofs.Benches.{carried, held_same}
 use Rattle.kmemrun.proofs.bench.Bench.del.Goals as goal
 
 pub returns-in-Some : goal.returns-in-Some
@@ -24,11 +24,10 @@ returns-in-Some c =
             let at = subst (StandsAt s) (sym c.self.view_is) given in
             let ends =
             c.law_one_step.ensures.ended s f.heap.heap c.del-reply.new.self.heap c.free.new.self.state c.args.worker c.args.name c.in-Some.buf.number at.stands
-            (range_of s c.args.self.now c.args.worker (Del c.args.name) given (ap (λ (b : BenchView). length b.heap.heap.tags) (sym c.self.view_is) ∙ c.self.invariant.tags) c.requires.command)
-            out.address (out.ended s.map s.addresses at.stands.valid at.stands.stands)
+            out.address (out.ended s.map s.addresses at.stands.stands)
             (subst (λ (t : CacheState). enter t (Free c.in-Some.buf.number) ≡ Some c.free.new.self.state) at.cache c.free.ensures.entry)
-            (c.del-reply.ensures.stands s.map s.addresses at.stands.valid at.stands.stands) out.places in
-            carried old new s c.args.worker (Del c.args.name) c.del-reply.result.0 _ c.free.new.self.state at ends (c.del-reply.ensures.reply s.map s.addresses at.stands.valid at.stands.stands) refl c.free.ensures.home c.del-reply.ensures.frame
+            (c.del-reply.ensures.stands s.map s.addresses at.stands.stands) out.places in
+            carried old new s c.args.worker (Del c.args.name) c.del-reply.result.0 _ c.free.new.self.state at ends (c.del-reply.ensures.reply s.map s.addresses at.stands.stands) refl c.free.ensures.home c.del-reply.ensures.frame
             (held_same old new s c.args.worker (Del c.args.name) at ends.stands (c.law_one_step.ensures.tags s c.args.worker (Del c.args.name) refl) (λ place. refl));
         names = c.del-reply.ensures.frame.names ∙ ap (λ (b : BenchView). length b.heap.heap.names) c.self.view_is;
         settled = ap (λ (b : BenchView). b.settled) c.self.view_is;
@@ -48,10 +47,9 @@ returns-in_default c =
             let at = subst (StandsAt s) (sym c.self.view_is) given in
             let ends =
             c.law_one_step.ensures.kept s f.heap.heap c.del-reply.new.self.heap c.args.worker c.args.name at.stands
-            (range_of s c.args.self.now c.args.worker (Del c.args.name) given (ap (λ (b : BenchView). length b.heap.heap.tags) (sym c.self.view_is) ∙ c.self.invariant.tags) c.requires.command)
-            (kept.lives s.map s.addresses at.stands.valid at.stands.stands)
-            (c.del-reply.ensures.stands s.map s.addresses at.stands.valid at.stands.stands) kept.places in
-            carried old new s c.args.worker (Del c.args.name) c.del-reply.result.0 _ s.cache at ends (c.del-reply.ensures.reply s.map s.addresses at.stands.valid at.stands.stands) at.cache refl c.del-reply.ensures.frame
+            (kept.lives s.map s.addresses at.stands.stands)
+            (c.del-reply.ensures.stands s.map s.addresses at.stands.stands) kept.places in
+            carried old new s c.args.worker (Del c.args.name) c.del-reply.result.0 _ s.cache at ends (c.del-reply.ensures.reply s.map s.addresses at.stands.stands) at.cache refl c.del-reply.ensures.frame
             (held_same old new s c.args.worker (Del c.args.name) at ends.stands (c.law_one_step.ensures.tags s c.args.worker (Del c.args.name) refl) (λ place. refl));
         names = c.del-reply.ensures.frame.names ∙ ap (λ (b : BenchView). length b.heap.heap.names) c.self.view_is;
         settled = ap (λ (b : BenchView). b.settled) c.self.view_is;

@@ -9,7 +9,7 @@ freeing-init c = record { stands = c.requires.stands; settled = refl; freeing = 
 pub freeing-smaller : goal.freeing-smaller
 freeing-smaller c =
     let s = c.freeing.invariant.stands.0 in
-    subst (λ (b : Bool). count_by (λ x. x) (places_of c.free_one-more.new.self.heap.heap) + cond c.free_one-more.result 1 0 < count_by (λ x. x) (places_of c.freeing.self.heap.heap) + cond b 1 0) (sym c.freeing-test.true)
+    subst (λ (b : Bool). count_by (λ x. x) (places_of c.free_one-more.new.self.heap.heap.objects) + cond c.free_one-more.result 1 0 < count_by (λ x. x) (places_of c.freeing.self.heap.heap.objects) + cond b 1 0) (sym c.freeing-test.true)
     (fewer s c.freeing.self c.free_one-more.new.self c.free_one-more.result (c.free_one-more.ensures.freed s c.freeing.invariant.stands.1))
 
 pub freeing-preserved : goal.freeing-preserved

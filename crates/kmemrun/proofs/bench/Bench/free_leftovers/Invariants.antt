@@ -1,7 +1,8 @@
 use Rattle.std.proofs.Common.{◌≡◌, ◌+◌, count_by, cond}
 use Rattle.kmem_model.specs.Heap.{places_of}
 use Rattle.kmem_model.specs.One.{OneState}
-use Rattle.kmemrun.specs.Bench.{StandsAt, Stands, IsFreeing}
+use Rattle.kmemrun.specs.Bench.{StandsAt, Stands}
+use Rattle.kmemrun.proofs.Within.{IsFreeing}
 use Rattle.kmemrun.proofs.bench.Bench.free_leftovers.Given as goal
 
 -- once there is none more, none is left
@@ -13,4 +14,4 @@ invariant-freeing l = record {
 }
 
 abbrev pub decreases-freeing : goal.decreases-freeing
-decreases-freeing l = count_by (λ x. x) (places_of l.self.heap.heap) + cond l.more 1 0
+decreases-freeing l = count_by (λ x. x) (places_of l.self.heap.heap.objects) + cond l.more 1 0

@@ -19,7 +19,7 @@ frees c s at =
     let does =
     c.law_one_settle.ensures.freed s f.heap.heap c.take_leftover.new.self.heap c.free.new.self.state b at.stands c.in-Some.ensures.buf.0
     (subst (λ (t : CacheState). enter t (Free b) ≡ Some c.free.new.self.state) at.cache c.free.ensures.entry)
-    (c.take_leftover.ensures.stands s.map s.addresses at.stands.valid at.stands.stands) c.in-Some.ensures.places in (
+    (c.take_leftover.ensures.stands s.map s.addresses at.stands.stands) c.in-Some.ensures.places in (
       b,
       does.0,
       record {
@@ -28,7 +28,7 @@ frees c s at =
         cells = ap (λ h. length h.cells) c.free.ensures.home ∙ (at.cells ∙ (sym at.stands.size ∙ (sym c.take_leftover.ensures.frame.objects ∙ does.2.size)));
         held = λ place. at.held place ∙ (in_use s f.heap.heap place at.stands ∙ sym (in_use (without_leftover s b) c.take_leftover.new.self.heap place does.2));
       },
-      ap (λ ps. count_by (λ x. x) ps + 1) c.in-Some.ensures.places ∙ one_less (places_of f.heap.heap) b (place_there f.heap.heap b c.in-Some.ensures.buf.0),
+      ap (λ ps. count_by (λ x. x) ps + 1) c.in-Some.ensures.places ∙ one_less (places_of f.heap.heap.objects) b (place_there f.heap.heap b c.in-Some.ensures.buf.0),
     )
 
 pub returns-in-Some-clause-freed : goal.returns-in-Some-clause-freed

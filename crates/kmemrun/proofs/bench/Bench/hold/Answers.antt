@@ -3,7 +3,7 @@ use Rattle.kmem_text.specs.declared.command.Command.TheVariants.{Hold}
 use Rattle.kmem_text.specs.declared.command.Reply.TheVariants.{Done}
 use Rattle.kmem_model.specs.Records.{RecordMap, tag_place}
 use Rattle.kmemrun.specs.Bench.{BenchView, StandsAt, CarriesOut}
-use Rattle.kmemrun.proofs.Benches.{range_of, carried, held_same, held_changed, holds_are, filled_both, tags_size, some_is, none_not}
+use Rattle.kmemrun.proofs.Benches.{carried, held_same, held_changed, holds_are, filled_both, tags_size, some_is, none_not}
 use Rattle.kmemrun.proofs.bench.Bench.hold.Goals as goal
 use Rattle.kmemrun.proofs.bench.Bench.hold.Goals.{in-Some-1, in-None-1}
 
@@ -19,17 +19,16 @@ returns-in-Some c =
       carried_out = subst (CarriesOut c.args.self.now c.args.worker (Hold c.args.tag c.args.name) c.hold-reply.result.0) (sym is) (record {
         out = λ s given.
             let at = subst (StandsAt s) (sym c.self.view_is) given in
-            let reply = c.hold-reply.ensures.reply s.map s.addresses at.stands.valid at.stands.stands in
+            let reply = c.hold-reply.ensures.reply s.map s.addresses at.stands.stands in
             let ends =
             c.law_one_step.ensures.leaving s f.heap.heap c.hold-reply.new.self.heap c.args.worker (Hold c.args.tag c.args.name) at.stands refl
-            (range_of s c.args.self.now c.args.worker (Hold c.args.tag c.args.name) given (ap (λ (b : BenchView). length b.heap.heap.tags) (sym c.self.view_is) ∙ c.self.invariant.tags) c.requires.command)
-            (c.hold-reply.ensures.stands s.map s.addresses at.stands.valid at.stands.stands) c.hold-reply.ensures.places in
+            (c.hold-reply.ensures.stands s.map s.addresses at.stands.stands) c.hold-reply.ensures.places in
             let held = c.law_step.ensures.held s.map c.args.worker c.args.tag c.args.name (sym reply ∙ done) in
             let tags = ap (λ (m : RecordMap). m.tags) (c.law_one_step.ensures.maps s c.args.worker (Hold c.args.tag c.args.name) refl) ∙ held.1 in
             carried old new s c.args.worker (Hold c.args.tag c.args.name) c.hold-reply.result.0 _ s.cache at ends reply at.cache refl c.hold-reply.ensures.frame
-            (held_changed old new s c.args.worker (Hold c.args.tag c.args.name) (set s.map.tags (tag_place c.args.worker c.args.tag.0) (Some held.0)) ends.stands tags
+            (held_changed old new s c.args.worker (Hold c.args.tag c.args.name) (set s.map.tags (tag_place c.args.worker c.args.tag) (Some held.0)) ends.stands tags
             (λ n. ap (λ i. is_some (get_or (set f.holds.items i (Some c.in-Some.hold)) n None)) c.place_of.ensures.place
-            ∙ filled_both f.holds.items s.map.tags (tag_place c.args.worker c.args.tag.0) c.in-Some.hold held.0
+            ∙ filled_both f.holds.items s.map.tags (tag_place c.args.worker c.args.tag) c.in-Some.hold held.0
             (subst (λ i. i < length f.holds.items) c.place_of.ensures.place below)
             (subst (λ i. i < length s.map.tags) c.place_of.ensures.place (omega (arith, c.place_of.ensures.within, tags_size s old at, c.self.invariant.tags)))
             (holds_are s old at) n));
@@ -47,11 +46,10 @@ returns-in_default c =
       carried_out = record {
         out = λ s given.
             let at = subst (StandsAt s) (sym c.self.view_is) given in
-            let reply = c.hold-reply.ensures.reply s.map s.addresses at.stands.valid at.stands.stands in
+            let reply = c.hold-reply.ensures.reply s.map s.addresses at.stands.stands in
             let ends =
             c.law_one_step.ensures.leaving s f.heap.heap c.hold-reply.new.self.heap c.args.worker (Hold c.args.tag c.args.name) at.stands refl
-            (range_of s c.args.self.now c.args.worker (Hold c.args.tag c.args.name) given (ap (λ (b : BenchView). length b.heap.heap.tags) (sym c.self.view_is) ∙ c.self.invariant.tags) c.requires.command)
-            (c.hold-reply.ensures.stands s.map s.addresses at.stands.valid at.stands.stands) c.hold-reply.ensures.places in
+            (c.hold-reply.ensures.stands s.map s.addresses at.stands.stands) c.hold-reply.ensures.places in
             let tags = ap (λ (m : RecordMap). m.tags) (c.law_one_step.ensures.maps s c.args.worker (Hold c.args.tag c.args.name) refl)
             ∙ c.law_step.ensures.not_held s.map c.args.worker c.args.tag c.args.name (λ done. none_not c.hold-reply.result.1 c.in_default.is (c.hold-reply.ensures.done.0 (reply ∙ done))) in
             carried old new s c.args.worker (Hold c.args.tag c.args.name) c.hold-reply.result.0 _ s.cache at ends reply at.cache refl c.hold-reply.ensures.frame

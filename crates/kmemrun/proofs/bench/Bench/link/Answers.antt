@@ -1,7 +1,7 @@
 use Rattle.std.proofs.Common.{length, refl, sym, ap, ◌∙◌, subst}
 use Rattle.kmem_text.specs.declared.command.Command.TheVariants.{Link}
 use Rattle.kmemrun.specs.Bench.{BenchView, StandsAt}
-use Rattle.kmemrun.proofs.Benches.{range_of, carried, held_same}
+use Rattle.kmemrun.proofs.Benches.{carried, held_same}
 use Rattle.kmemrun.proofs.bench.Bench.link.Goals as goal
 
 pub returns : goal.returns
@@ -15,9 +15,8 @@ returns c =
             let at = subst (StandsAt s) (sym c.self.view_is) given in
             let ends =
             c.law_one_step.ensures.leaving s f.heap.heap c.link.new.self.heap c.args.worker (Link c.args.name c.args.other) at.stands refl
-            (range_of s c.args.self.now c.args.worker (Link c.args.name c.args.other) given (ap (λ (b : BenchView). length b.heap.heap.tags) (sym c.self.view_is) ∙ c.self.invariant.tags) c.requires.command)
-            (c.link.ensures.stands s.map s.addresses at.stands.valid at.stands.stands) c.link.ensures.places in
-            carried old new s c.args.worker (Link c.args.name c.args.other) c.link.result _ s.cache at ends (c.link.ensures.reply s.map s.addresses at.stands.valid at.stands.stands) at.cache refl c.link.ensures.frame
+            (c.link.ensures.stands s.map s.addresses at.stands.stands) c.link.ensures.places in
+            carried old new s c.args.worker (Link c.args.name c.args.other) c.link.result _ s.cache at ends (c.link.ensures.reply s.map s.addresses at.stands.stands) at.cache refl c.link.ensures.frame
             (held_same old new s c.args.worker (Link c.args.name c.args.other) at ends.stands (c.law_one_step.ensures.tags s c.args.worker (Link c.args.name c.args.other) refl) (λ place. refl));
         names = c.link.ensures.frame.names ∙ ap (λ (b : BenchView). length b.heap.heap.names) c.self.view_is;
         settled = ap (λ (b : BenchView). b.settled) c.self.view_is;

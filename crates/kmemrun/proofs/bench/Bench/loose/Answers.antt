@@ -1,7 +1,7 @@
 use Rattle.std.proofs.Common.{length, refl, sym, ap, ◌∙◌, subst}
 use Rattle.kmem_text.specs.declared.command.Command.TheVariants.{Loose}
 use Rattle.kmemrun.specs.Bench.{BenchView, StandsAt}
-use Rattle.kmemrun.proofs.Benches.{range_of, carried, held_same}
+use Rattle.kmemrun.proofs.Benches.{carried, held_same}
 use Rattle.kmemrun.proofs.bench.Bench.loose.Goals as goal
 
 pub returns : goal.returns
@@ -15,9 +15,8 @@ returns c =
             let at = subst (StandsAt s) (sym c.self.view_is) given in
             let ends =
             c.law_one_step.ensures.leaving s f.heap.heap c.loose.new.self.heap c.args.worker (Loose c.args.name) at.stands refl
-            (range_of s c.args.self.now c.args.worker (Loose c.args.name) given (ap (λ (b : BenchView). length b.heap.heap.tags) (sym c.self.view_is) ∙ c.self.invariant.tags) c.requires.command)
-            (c.loose.ensures.stands s.map s.addresses at.stands.valid at.stands.stands) c.loose.ensures.places in
-            carried old new s c.args.worker (Loose c.args.name) c.loose.result _ s.cache at ends (c.loose.ensures.reply s.map s.addresses at.stands.valid at.stands.stands) at.cache refl c.loose.ensures.frame
+            (c.loose.ensures.stands s.map s.addresses at.stands.stands) c.loose.ensures.places in
+            carried old new s c.args.worker (Loose c.args.name) c.loose.result _ s.cache at ends (c.loose.ensures.reply s.map s.addresses at.stands.stands) at.cache refl c.loose.ensures.frame
             (held_same old new s c.args.worker (Loose c.args.name) at ends.stands (c.law_one_step.ensures.tags s c.args.worker (Loose c.args.name) refl) (λ place. refl));
         names = c.loose.ensures.frame.names ∙ ap (λ (b : BenchView). length b.heap.heap.names) c.self.view_is;
         settled = ap (λ (b : BenchView). b.settled) c.self.view_is;

@@ -4,7 +4,7 @@ use Rattle.kmem_model.specs.Heap.{address_of}
 use Rattle.kmem_model.specs.One.{OneState}
 use Rattle.record_heap.specs.View.{HeapView}
 use Rattle.kmemrun.specs.Bench.{BenchView, StandsAt, Stands, CarriesOut, IsCarriedOut}
-use Rattle.kmemrun.proofs.Benches.{range_of, carried, held_same, reply_same, wanted_not, absent_is}
+use Rattle.kmemrun.proofs.Benches.{carried, held_same, reply_same, wanted_not, absent_is}
 use Rattle.kmemrun.proofs.bench.Bench.put.Goals as goal
 
 pub returns-in-Some : goal.returns-in-Some
@@ -32,10 +32,9 @@ returns-in-Some c =
         let put = c.decide_put-end.ensures.present b e in
         let ends =
         c.law_one_step.ensures.replaced s f.heap.heap c.decide_put-end.new.self.heap c.args.worker c.args.name c.args.value at.stands
-        (range_of s c.args.self.now c.args.worker (Put c.args.name c.args.value) given (ap (λ (b : BenchView). length b.heap.heap.tags) (sym c.self.view_is) ∙ c.self.invariant.tags) c.requires.command)
-        (ap is_some e) (put.stands s.map s.addresses at.stands.valid at.stands.stands) put.places in
+        (ap is_some e) (put.stands s.map s.addresses at.stands.stands) put.places in
         carried old new s c.args.worker (Put c.args.name c.args.value) c.in-Some.reply _ s.cache at ends
-        (reply_same c.in-Some.reply _ c.decide_put-end.result None (sym c.reply_in.ensures ∙ c.in-Some.is) (put.reply s.map s.addresses at.stands.valid at.stands.stands)) at.cache refl c.decide_put-end.ensures.frame
+        (reply_same c.in-Some.reply _ c.decide_put-end.result None (sym c.reply_in.ensures ∙ c.in-Some.is) (put.reply s.map s.addresses at.stands.stands)) at.cache refl c.decide_put-end.ensures.frame
         (held_same old new s c.args.worker (Put c.args.name c.args.value) at ends.stands (c.law_one_step.ensures.tags s c.args.worker (Put c.args.name c.args.value) refl) (λ place. refl))
 
 -- where nothing was replied, the name is absent

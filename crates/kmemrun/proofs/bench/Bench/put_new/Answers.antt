@@ -5,19 +5,18 @@ use Rattle.kmem_text.specs.declared.command.Reply.TheVariants.{New, Full}
 use Rattle.kmem_model.specs.CacheState.{CacheState}
 use Rattle.kmem_model.specs.CacheEnter.{enter, is_full}
 use Rattle.kmem_model.specs.declared.cache_entry.CacheEntry.TheVariants.{Alloc}
-use Rattle.kmem_model.specs.Heap.{address_of}
+use Rattle.kmem_model.specs.Heap.{least_left_in, address_of}
 use Rattle.kmem_model.specs.One.{OneState, one_step}
 use Rattle.kmem_model.specs.OneStands.{OneEnds}
-use Rattle.kmem_model.specs.RecordStep.{IsInRange}
 use Rattle.kmem_text.specs.declared.command.Reply.{Reply}
 use Rattle.record_heap.specs.declared.heap.put.PutEnd.TheVariants.{Replied}
 use Rattle.object_cache.specs.Cache.{CacheView}
 use Rattle.object_cache.specs.declared.cache.AllocRefused.TheVariants as refused
-use Rattle.record_heap.specs.View.{HeapView, least_leftover}
+use Rattle.record_heap.specs.View.{HeapView}
 use Rattle.record_heap.specs.Puts.{IsPutLast}
 use Rattle.record_heap.specs.declared.heap.put.PutEnd.{PutEnd}
 use Rattle.kmemrun.specs.Bench.{BenchView, StandsAt, IsCarriedOut, reply_in}
-use Rattle.kmemrun.proofs.Benches.{range_of, carried, held_same, reply_same, legal_full, not_full, ok_err}
+use Rattle.kmemrun.proofs.Benches.{carried, held_same, reply_same, legal_full, not_full, ok_err}
 use Rattle.kmemrun.proofs.bench.Bench.put_new.Goals as goal
 
 pub reply_of-requires : goal.reply_of-requires
@@ -29,7 +28,7 @@ last_replied h name value (Some b) end new put = ap (λ e. is_some (reply_in e))
 
 pub reply_of-requires-in-Err-Full : goal.reply_of-requires-in-Err-Full
 reply_of-requires-in-Err-Full c =
-    last_replied c.self.inside.heap c.args.name.0 c.args.value (least_leftover c.self.inside.heap.heap) c.decide_put-in-Err-Full.result c.decide_put-in-Err-Full.new.self
+    last_replied c.self.inside.heap c.args.name.0 c.args.value (least_left_in c.self.inside.heap.heap) c.decide_put-in-Err-Full.result c.decide_put-in-Err-Full.new.self
     (c.decide_put-in-Err-Full.ensures.absent (ap (λ (b : BenchView). address_of b.heap.heap c.args.name.0) c.self.view_is ∙ c.requires.absent))
 
 pub returns-in-Ok : goal.returns-in-Ok
@@ -44,12 +43,11 @@ returns-in-Ok c =
         out = λ s given.
             let at = subst (StandsAt s) (sym c.self.view_is) given in
             let ends =
-            c.law_one_step.ensures.made s f.heap.heap c.decide_put.new.self.heap c.alloc.new.self.state c.args.worker c.args.name c.args.value c.in-Ok.buf.number at.stands
-            (range_of s c.args.self.now c.args.worker (Put c.args.name c.args.value) given (ap (λ (b : BenchView). length b.heap.heap.tags) (sym c.self.view_is) ∙ c.self.invariant.tags) c.requires.command) absent
+            c.law_one_step.ensures.made s f.heap.heap c.decide_put.new.self.heap c.alloc.new.self.state c.args.worker c.args.name c.args.value c.in-Ok.buf.number at.stands absent
             (ap is_full (sym at.cache) ∙ not_full (is_full f.cache.state) f.cache.state (λ legal. ok_err c.alloc.result c.in-Ok.buf refused.Full c.in-Ok.is (c.alloc.ensures.full.1 legal)))
             (subst (λ (t : CacheState). enter t (Alloc c.in-Ok.buf.number) ≡ Some c.alloc.new.self.state) at.cache c.in-Ok.ensures.entry)
             (subst (λ n. c.in-Ok.buf.number < n) at.cells (slice_get_within f.cache.home.cells c.in-Ok.buf.number c.in-Ok.buf.home c.in-Ok.ensures.ready.1))
-            put.empty (put.is_new s.map s.addresses at.stands.valid at.stands.stands) put.places in
+            put.empty (put.is_new s.map s.addresses at.stands.stands) put.places in
             carried old new s c.args.worker (Put c.args.name c.args.value) c.reply_of.result New c.alloc.new.self.state at ends
             (reply_same c.reply_of.result New c.decide_put.result None c.reply_of.ensures put.reply) refl c.in-Ok.ensures.home c.decide_put.ensures.frame
             (held_same old new s c.args.worker (Put c.args.name c.args.value) at ends.stands (c.law_one_step.ensures.tags s c.args.worker (Put c.args.name c.args.value) refl) (λ place. refl));
@@ -58,11 +56,11 @@ returns-in-Ok c =
       };
     }
 
-last : (c : goal.After-reply_of-in-Err-Full) (s : OneState) → StandsAt s (record { cache = c.self.inside.cache; heap = c.self.inside.heap; holds = c.self.inside.holds.items; settled = c.self.inside.settled }) → IsInRange s.map c.args.worker (Put c.args.name c.args.value) →
+last : (c : goal.After-reply_of-in-Err-Full) (s : OneState) → StandsAt s (record { cache = c.self.inside.cache; heap = c.self.inside.heap; holds = c.self.inside.holds.items; settled = c.self.inside.settled }) →
     address_of c.self.inside.heap.heap c.args.name.0 ≡ None →
-    (x : Option ℕ) → least_leftover c.self.inside.heap.heap ≡ x → IsPutLast c.self.inside.heap c.args.name.0 c.args.value x c.decide_put-in-Err-Full.result c.decide_put-in-Err-Full.new.self →
+    (x : Option ℕ) → least_left_in c.self.inside.heap.heap ≡ x → IsPutLast c.self.inside.heap c.args.name.0 c.args.value x c.decide_put-in-Err-Full.result c.decide_put-in-Err-Full.new.self →
     IsCarriedOut s c.args.worker (Put c.args.name c.args.value) c.reply_of-in-Err-Full.result (record { cache = c.alloc.new.self; heap = c.decide_put-in-Err-Full.new.self; holds = c.self.inside.holds.items; settled = c.self.inside.settled })
-last c s at range absent x left put = by_left x left put
+last c s at absent x left put = by_left x left put
   where
     old : BenchView
     old = record { cache = c.self.inside.cache; heap = c.self.inside.heap; holds = c.self.inside.holds.items; settled = c.self.inside.settled }
@@ -84,7 +82,7 @@ last c s at range absent x left put = by_left x left put
         (ap (λ (v : CacheView). v.state) same ∙ at.cache) (ap (λ (v : CacheView). v.home) same) c.decide_put-in-Err-Full.ensures.frame
         (held_same old new s c.args.worker (Put c.args.name c.args.value) at ends.stands (c.law_one_step.ensures.tags s c.args.worker (Put c.args.name c.args.value) refl) (λ place. refl))
 
-    by_left : (x : Option ℕ) → least_leftover c.self.inside.heap.heap ≡ x → IsPutLast c.self.inside.heap c.args.name.0 c.args.value x c.decide_put-in-Err-Full.result c.decide_put-in-Err-Full.new.self →
+    by_left : (x : Option ℕ) → least_left_in c.self.inside.heap.heap ≡ x → IsPutLast c.self.inside.heap c.args.name.0 c.args.value x c.decide_put-in-Err-Full.result c.decide_put-in-Err-Full.new.self →
         IsCarriedOut s c.args.worker (Put c.args.name c.args.value) c.reply_of-in-Err-Full.result new
     by_left None left put =
         done Full
@@ -93,8 +91,8 @@ last c s at range absent x left put = by_left x left put
         put.0
     by_left (Some b) left put =
         done New
-        (c.law_one_step.ensures.reused s c.self.inside.heap.heap c.decide_put-in-Err-Full.new.self.heap c.args.worker c.args.name c.args.value b at.stands range absent full left
-        (put.is_new s.map s.addresses at.stands.valid at.stands.stands) put.places)
+        (c.law_one_step.ensures.reused s c.self.inside.heap.heap c.decide_put-in-Err-Full.new.self.heap c.args.worker c.args.name c.args.value b at.stands absent full left
+        (put.is_new s.map s.addresses at.stands.stands) put.places)
         put.reply
 
 pub returns-in-Err-Full : goal.returns-in-Err-Full
@@ -105,8 +103,7 @@ returns-in-Err-Full c =
       carried_out = record {
         out = λ s given.
             last c s (subst (StandsAt s) (sym c.self.view_is) given)
-            (range_of s c.args.self.now c.args.worker (Put c.args.name c.args.value) given (ap (λ (b : BenchView). length b.heap.heap.tags) (sym c.self.view_is) ∙ c.self.invariant.tags) c.requires.command)
-            absent (least_leftover f.heap.heap) refl (c.decide_put-in-Err-Full.ensures.absent absent);
+            absent (least_left_in f.heap.heap) refl (c.decide_put-in-Err-Full.ensures.absent absent);
         names = c.decide_put-in-Err-Full.ensures.frame.names ∙ ap (λ (b : BenchView). length b.heap.heap.names) c.self.view_is;
         settled = ap (λ (b : BenchView). b.settled) c.self.view_is;
       };

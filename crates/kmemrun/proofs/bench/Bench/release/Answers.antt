@@ -7,7 +7,7 @@ use Rattle.kmem_model.specs.RecordStep.{drop_step}
 use Rattle.kmem_model.specs.Heap.{StandsFor, hold_at}
 use Rattle.record_heap.specs.View.{HoldState}
 use Rattle.kmemrun.specs.Bench.{BenchView, StandsAt, IsHoldAtPlace}
-use Rattle.kmemrun.proofs.Benches.{range_of, carried, held_changed, holds_are, cleared_both, kept_at, read_is, not_used, same_frame}
+use Rattle.kmemrun.proofs.Benches.{carried, held_changed, holds_are, cleared_both, kept_at, read_is, not_used, same_frame}
 use Rattle.kmemrun.proofs.bench.Bench.release.Goals as goal
 
 pub returns-in-Some : goal.returns-in-Some
@@ -18,24 +18,23 @@ returns-in-Some c =
     let item : get_or f.holds.items c.place_of.result None ≡ c.index_mut.result.now = read_is f.holds.items c.place_of.result c.index_mut.result.now below c.index_mut.ensures.value in
     let new : BenchView = record old { heap = c.release.new.self; holds = set f.holds.items c.place_of.result c.take.new.self } in
     let here : get_or f.holds.items c.place_of.result None ≡ Some c.in-Some.hold = item ∙ (sym c.take.ensures.value ∙ c.in-Some.is) in
-    let place : tag_place c.in-Some.hold.worker c.in-Some.hold.tag ≡ tag_place c.args.worker c.args.tag.0 =
+    let place : tag_place c.in-Some.hold.worker c.in-Some.hold.tag ≡ tag_place c.args.worker c.args.tag =
     (subst (λ (o : Option HoldState). IfSome o (IsHoldAtPlace f.heap c.place_of.result)) here (c.self.invariant.held c.place_of.result)).1 ∙ c.place_of.ensures.place in
     record {
       carried_out = record {
         out = λ s given.
             let at = subst (StandsAt s) (sym c.self.view_is) given in
-            let after = subst (λ n. StandsFor (drop_step s.map n (held_at s.map n)).map s.addresses c.release.new.self.heap) place (c.release.ensures.stands s.map s.addresses at.stands.valid at.stands.stands) in
-            let reply = subst (λ n. c.release.result ≡ (drop_step s.map n (held_at s.map n)).reply) place (c.release.ensures.reply s.map s.addresses at.stands.valid at.stands.stands) in
+            let after = subst (λ n. StandsFor (drop_step s.map n (held_at s.map n)).map s.addresses c.release.new.self.heap) place (c.release.ensures.stands s.map s.addresses at.stands.stands) in
+            let reply = subst (λ n. c.release.result ≡ (drop_step s.map n (held_at s.map n)).reply) place (c.release.ensures.reply s.map s.addresses at.stands.stands) in
             let ends =
             c.law_one_step.ensures.leaving s f.heap.heap c.release.new.self.heap c.args.worker (Drop c.args.tag) at.stands refl
-            (range_of s c.args.self.now c.args.worker (Drop c.args.tag) given (ap (λ (b : BenchView). length b.heap.heap.tags) (sym c.self.view_is) ∙ c.self.invariant.tags) c.requires.command)
             after c.release.ensures.places in
-            let used : is_some (held_at s.map (tag_place c.args.worker c.args.tag.0)) ≡ true = sym (holds_are s old at (tag_place c.args.worker c.args.tag.0)) ∙ (ap (λ n. is_some (get_or f.holds.items n None)) (sym c.place_of.ensures.place) ∙ ap is_some here) in
+            let used : is_some (held_at s.map (tag_place c.args.worker c.args.tag)) ≡ true = sym (holds_are s old at (tag_place c.args.worker c.args.tag)) ∙ (ap (λ n. is_some (get_or f.holds.items n None)) (sym c.place_of.ensures.place) ∙ ap is_some here) in
             let tags = ap (λ (m : RecordMap). m.tags) (c.law_one_step.ensures.maps s c.args.worker (Drop c.args.tag) refl) ∙ c.law_step.ensures.dropped s.map c.args.worker c.args.tag used in
             carried old new s c.args.worker (Drop c.args.tag) c.release.result _ s.cache at ends reply at.cache refl c.release.ensures.frame
-            (held_changed old new s c.args.worker (Drop c.args.tag) (set s.map.tags (tag_place c.args.worker c.args.tag.0) None) ends.stands tags
+            (held_changed old new s c.args.worker (Drop c.args.tag) (set s.map.tags (tag_place c.args.worker c.args.tag) None) ends.stands tags
             (λ n. ap₂ (λ i y. is_some (get_or (set f.holds.items i y) n None)) c.place_of.ensures.place c.take.ensures.after
-            ∙ cleared_both f.holds.items s.map.tags (tag_place c.args.worker c.args.tag.0) (holds_are s old at) n));
+            ∙ cleared_both f.holds.items s.map.tags (tag_place c.args.worker c.args.tag) (holds_are s old at) n));
         names = c.release.ensures.frame.names ∙ ap (λ (b : BenchView). length b.heap.heap.names) c.self.view_is;
         settled = ap (λ (b : BenchView). b.settled) c.self.view_is;
       };
@@ -53,7 +52,7 @@ returns-in-None c =
       carried_out = record {
         out = λ s given.
             let at = subst (StandsAt s) (sym c.self.view_is) given in
-            let none : hold_at f.heap.heap (tag_place c.args.worker c.args.tag.0) ≡ None = not_used s old (tag_place c.args.worker c.args.tag.0) at (ap (λ n. get_or f.holds.items n None) (sym c.place_of.ensures.place) ∙ empty) in
+            let none : hold_at f.heap.heap (tag_place c.args.worker c.args.tag) ≡ None = not_used s old (tag_place c.args.worker c.args.tag) at (ap (λ n. get_or f.holds.items n None) (sym c.place_of.ensures.place) ∙ empty) in
             let ends = c.law_one_step.ensures.idle s f.heap.heap c.args.worker (Drop c.args.tag) c.args.tag at.stands none refl in
             carried old new s c.args.worker (Drop c.args.tag) c.idle.result Idle s.cache at ends c.idle.ensures.reply at.cache refl same_frame
             (λ n. kept_at f.holds.items c.place_of.result c.take.new.self below (ap is_some c.take.ensures.after ∙ sym (ap is_some empty)) n ∙ at.held n);

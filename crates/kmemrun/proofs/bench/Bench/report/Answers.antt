@@ -4,7 +4,8 @@ use Rattle.std.specs.Io.KnownBytes.{Appends}
 use Rattle.kmem_io.specs.Streams.{AppendsFront}
 use Rattle.kmem_model.specs.Report.{Report, report_text}
 use Rattle.kmem_model.specs.OneRun.{OneRun, report_of}
-use Rattle.kmem_model.specs.OneRun as one
+use Rattle.kmem_model.specs.Report.{ends_in}
+use Rattle.kmem_model.specs.SettleEntries.{moves_entries}
 use Rattle.kmem_report.specs.Reported.{counts_of, reported}
 use Rattle.consolidator.specs.Tallies.{tally_of}
 use Rattle.kmemrun.specs.Bench.{RunsAt}
@@ -17,7 +18,7 @@ same g c run given =
     let at = subst (RunsAt run) (sym c.self.view_is) given in
     report_is run c.live.result c.no_moves.result c.self.inside.settled c.self.inside.cache.state
     (c.live.ensures.live run.state.map run.state.addresses at.stands.stands.stands) c.no_moves.ensures
-    (ap counts_of at.settled ∙ counts_are (tally_of run.moves) (one.counts_of run.moves) (c.law_tally.ensures.yes run.moves) (c.law_tally.ensures.no run.moves) (c.law_tally.ensures.later run.moves) (c.law_tally.ensures.dont_need run.moves) (c.law_tally.ensures.dont_know run.moves) (c.law_tally.ensures.gone run.moves))
+    (ap counts_of at.settled ∙ counts_are (tally_of run.moves) (ends_in (moves_entries run.moves)) (c.law_tally.ensures.yes run.moves) (c.law_tally.ensures.no run.moves) (c.law_tally.ensures.later run.moves) (c.law_tally.ensures.dont_need run.moves) (c.law_tally.ensures.dont_know run.moves) (c.law_tally.ensures.gone run.moves))
     at.stands.cache
 
 pub returns-clause-whole : goal.returns-clause-whole

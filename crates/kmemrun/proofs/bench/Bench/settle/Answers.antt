@@ -12,19 +12,19 @@ use Rattle.kmemrun.proofs.bench.Bench.settle.Goals as goal
 
 -- the course that the settle takes, as the settle of `one`
 abbrev course : (c : goal.After-add) → Course
-course c = record { stage = stage_in c.settle-tally.new.cache.state c.settle-tally.new.heap.heap; moves = c.settle-tally.ensures.settles.moves }
+course c = record { stage = stage_in c.settle-tally.new.cache.state c.settle-tally.new.heap.heap.objects; moves = c.settle-tally.ensures.settles.moves }
 
 runs : (c : goal.After-add) (run : OneRun) → StandsAt run.state (record { cache = c.self.inside.cache; heap = c.self.inside.heap; holds = c.self.inside.holds.items; settled = c.self.inside.settled }) →
     (settled_run run ≡ run_after run (course c)) × StandsAt (run_after run (course c)).state (record { cache = c.settle-tally.new.cache; heap = c.settle-tally.new.heap; holds = c.self.inside.holds.items; settled = c.add.new.tally })
 runs c run at =
     let f = c.self.inside in
     let does = c.settle-tally.ensures.settles in
-    let stage : stage_in f.cache.state f.heap.heap ≡ stage_of run.state = ap (λ (cache : CacheState). stage_in cache f.heap.heap) at.cache ∙ c.law_one_settle.ensures.stage run.state f.heap.heap at.stands in
+    let stage : stage_in f.cache.state f.heap.heap.objects ≡ stage_of run.state = ap (λ (cache : CacheState). stage_in cache f.heap.heap.objects) at.cache ∙ c.law_one_settle.ensures.stage run.state f.heap.heap at.stands in
     let after =
     c.law_one_settle.ensures.settled run f.heap.heap c.settle-tally.new.heap.heap (course c) at.stands
     (subst (λ (s : Stage). settled s ≡ Some (course c)) stage does.settle)
     (c.law_stage.ensures.whole c.settle-tally.new.cache.state c.settle-tally.new.heap.heap c.settle-tally.ensures.whole.0 c.settle-tally.ensures.whole.1 c.settle-tally.ensures.buffers)
-    (does.heap_moves.stands run.state.map run.state.addresses at.stands.valid at.stands.stands)
+    (does.heap_moves.stands run.state.map run.state.addresses at.stands.stands)
     c.settle-tally.ensures.buffers in (
       after.0,
       record {

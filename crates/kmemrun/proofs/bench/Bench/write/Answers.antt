@@ -7,7 +7,7 @@ use Rattle.kmem_model.specs.RecordStep.{write_step}
 use Rattle.kmem_model.specs.Heap.{StandsFor, hold_at}
 use Rattle.record_heap.specs.View.{HoldState}
 use Rattle.kmemrun.specs.Bench.{BenchView, StandsAt, IsHoldAtPlace}
-use Rattle.kmemrun.proofs.Benches.{range_of, carried, held_same, kept_at, read_is, not_used, same_frame}
+use Rattle.kmemrun.proofs.Benches.{carried, held_same, kept_at, read_is, not_used, same_frame}
 use Rattle.kmemrun.proofs.bench.Bench.write.Goals as goal
 
 pub returns-in-Some : goal.returns-in-Some
@@ -18,17 +18,16 @@ returns-in-Some c =
     let item : get_or f.holds.items c.place_of.result None ≡ c.index_mut.result.now = read_is f.holds.items c.place_of.result c.index_mut.result.now below c.index_mut.ensures.value in
     let new : BenchView = record old { heap = c.write.new.self; holds = set f.holds.items c.place_of.result (Some c.write.new.hold) } in
     let here : get_or f.holds.items c.place_of.result None ≡ Some c.in-Some.hold = item ∙ c.in-Some.is in
-    let place : tag_place c.in-Some.hold.worker c.in-Some.hold.tag ≡ tag_place c.args.worker c.args.tag.0 =
+    let place : tag_place c.in-Some.hold.worker c.in-Some.hold.tag ≡ tag_place c.args.worker c.args.tag =
     (subst (λ (o : Option HoldState). IfSome o (IsHoldAtPlace f.heap c.place_of.result)) here (c.self.invariant.held c.place_of.result)).1 ∙ c.place_of.ensures.place in
     record {
       carried_out = record {
         out = λ s given.
             let at = subst (StandsAt s) (sym c.self.view_is) given in
-            let after = subst (λ n. StandsFor (write_step s.map c.args.value (held_at s.map n)).map s.addresses c.write.new.self.heap) place (c.write.ensures.stands s.map s.addresses at.stands.valid at.stands.stands) in
-            let reply = subst (λ n. c.write.result ≡ (write_step s.map c.args.value (held_at s.map n)).reply) place (c.write.ensures.reply s.map s.addresses at.stands.valid at.stands.stands) in
+            let after = subst (λ n. StandsFor (write_step s.map c.args.value (held_at s.map n)).map s.addresses c.write.new.self.heap) place (c.write.ensures.stands s.map s.addresses at.stands.stands) in
+            let reply = subst (λ n. c.write.result ≡ (write_step s.map c.args.value (held_at s.map n)).reply) place (c.write.ensures.reply s.map s.addresses at.stands.stands) in
             let ends =
             c.law_one_step.ensures.leaving s f.heap.heap c.write.new.self.heap c.args.worker (Write c.args.tag c.args.value) at.stands refl
-            (range_of s c.args.self.now c.args.worker (Write c.args.tag c.args.value) given (ap (λ (b : BenchView). length b.heap.heap.tags) (sym c.self.view_is) ∙ c.self.invariant.tags) c.requires.command)
             after c.write.ensures.places in
             carried old new s c.args.worker (Write c.args.tag c.args.value) c.write.result _ s.cache at ends reply at.cache refl c.write.ensures.frame
             (held_same old new s c.args.worker (Write c.args.tag c.args.value) at ends.stands (c.law_one_step.ensures.tags s c.args.worker (Write c.args.tag c.args.value) refl)
@@ -49,7 +48,7 @@ returns-in-None c =
       carried_out = record {
         out = λ s given.
             let at = subst (StandsAt s) (sym c.self.view_is) given in
-            let none : hold_at f.heap.heap (tag_place c.args.worker c.args.tag.0) ≡ None = not_used s old (tag_place c.args.worker c.args.tag.0) at (ap (λ n. get_or f.holds.items n None) (sym c.place_of.ensures.place) ∙ (item ∙ c.in-None.is)) in
+            let none : hold_at f.heap.heap (tag_place c.args.worker c.args.tag) ≡ None = not_used s old (tag_place c.args.worker c.args.tag) at (ap (λ n. get_or f.holds.items n None) (sym c.place_of.ensures.place) ∙ (item ∙ c.in-None.is)) in
             let ends = c.law_one_step.ensures.idle s f.heap.heap c.args.worker (Write c.args.tag c.args.value) c.args.tag at.stands none refl in
             carried old new s c.args.worker (Write c.args.tag c.args.value) c.idle.result Idle s.cache at ends c.idle.ensures.reply at.cache refl same_frame
             (held_same old new s c.args.worker (Write c.args.tag c.args.value) at ends.stands (c.law_one_step.ensures.tags s c.args.worker (Write c.args.tag c.args.value) refl)

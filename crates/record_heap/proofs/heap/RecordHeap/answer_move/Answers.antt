@@ -10,7 +10,7 @@ use Rattle.kmem_model.specs.CacheOrder.{is_the}
 use Rattle.kmem_model.specs.declared.cache_entry.Said.{Said}
 use Rattle.kmem_model.specs.declared.cache_entry.Said.TheVariants as said
 use Rattle.kmem_model.specs.Says.{answer_about, addresses_after, relocated}
-use Rattle.record_heap.specs.Answers.{said_of}
+use Rattle.kmem_answers.specs.Words.{said_of}
 use Rattle.record_heap.specs.Changes.{names_in, with_object}
 use Rattle.record_heap.proofs.Kept.{leftover_blank, some_is}
 use Rattle.record_heap.proofs.Shelved.{all_two}
@@ -59,7 +59,7 @@ invariant_of-self-in-DontNeed c =
     (without_kept h f.present f.records f.leftovers c.self.invariant c.args.from (need_is (object_at h c.args.from) says))
 
 pub returns-in-Yes-clause-stands : goal.returns-in-Yes-clause-stands
-returns-in-Yes-clause-stands c = λ m a valid s.
+returns-in-Yes-clause-stands c = λ m a s.
     let f = c.self.inside in
     let h = f.parts.heap in
     let parts = c.show_empty-to.ensures.parts in
@@ -70,7 +70,7 @@ returns-in-Yes-clause-stands c = λ m a valid s.
     let said_now : said.Yes ≡ answer_about (object_at c.args.self.now.heap c.args.from) = says ∙ ap (λ (v : HeapView). answer_about (object_at v.heap c.args.from)) c.self.view_is in
     subst (λ (x : Said). StandsFor m (addresses_after a c.args.from c.args.to.number x) c.relocate.new.self.heap) said_now
     (subst (λ (k : HeapState). StandsFor m (addresses_after a c.args.from c.args.to.number said.Yes) k) (sym is)
-    (c.law_relocation.ensures.moved m a h c.args.from c.args.to.number valid (subst (λ (v : HeapView). StandsFor m a v.heap) (sym c.self.view_is) s)
+    (c.law_relocation.ensures.moved m a h c.args.from c.args.to.number (subst (λ (v : HeapView). StandsFor m a v.heap) (sym c.self.view_is) s)
     c.show_empty-to.ensures.empty c.show_empty-to.ensures.range (sym says)))
 
 pub returns-in-DontNeed-clause-buffers : goal.returns-in-DontNeed-clause-buffers
@@ -91,7 +91,7 @@ returns-in-DontNeed-clause-buffers c =
     )
 
 pub returns-in-DontNeed-clause-stands : goal.returns-in-DontNeed-clause-stands
-returns-in-DontNeed-clause-stands c = λ m a valid s.
+returns-in-DontNeed-clause-stands c = λ m a s.
     let f = c.self.inside in
     let h = f.parts.heap in
     let parts = c.show_empty-to.ensures.parts in
@@ -102,4 +102,4 @@ returns-in-DontNeed-clause-stands c = λ m a valid s.
     let said_now : said.DontNeed ≡ answer_about (object_at c.args.self.now.heap c.args.from) = says ∙ ap (λ (v : HeapView). answer_about (object_at v.heap c.args.from)) c.self.view_is in
     subst (λ (x : Said). StandsFor m (addresses_after a c.args.from c.args.to.number x) c.take_out.new.self.heap) said_now
     (subst (λ (k : HeapState). StandsFor m a k) (sym is)
-    (c.law_relocation.ensures.unneeded m a h c.args.from valid (subst (λ (v : HeapView). StandsFor m a v.heap) (sym c.self.view_is) s) (sym says)))
+    (c.law_relocation.ensures.unneeded m a h c.args.from (subst (λ (v : HeapView). StandsFor m a v.heap) (sym c.self.view_is) s) (sym says)))

@@ -1,9 +1,12 @@
 use Rattle.std.proofs.Common.{[], sym, subst}
 use Rattle.kmem_model.specs.Records.{no_records}
-use Rattle.kmem_model.specs.Heap.{HeapState, StandsFor}
+use Rattle.kmem_model.specs.Heap.{HeapState, IsPaired}
 use Rattle.record_heap.proofs.Puts.{nothing_stands}
 use Rattle.record_heap.proofs.heap.RecordHeap.create.Goals as goal
 
 pub returns-clause-stands : goal.returns-clause-stands
 returns-clause-stands c =
-    subst (λ (k : HeapState). StandsFor (no_records c.args.names c.args.workers) [] k) (sym c.in_ok-create.ensures.heap) (nothing_stands c.args.names c.args.workers c.args.buffers)
+    record {
+      valid = c.law_step.ensures.start c.args.names c.args.workers;
+      paired = subst (λ (k : HeapState). IsPaired (no_records c.args.names c.args.workers) [] k) (sym c.in_ok-create.ensures.heap) (nothing_stands c.args.names c.args.workers c.args.buffers);
+    }

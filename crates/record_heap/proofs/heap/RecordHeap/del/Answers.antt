@@ -1,6 +1,6 @@
 use Rattle.std.proofs.Common.{◌≡◌, ℕ, ◌-◌, Bool, true, false, Some, None, List, set, is_some, sym, ap, ap₂, ◌∙◌, subst}
 use Rattle.kmem_model.specs.Records.{id_of}
-use Rattle.kmem_model.specs.Heap.{HeapState, StandsFor, address_of, object_at, places_of}
+use Rattle.kmem_model.specs.Heap.{HeapState, IsPaired, address_of, object_at, places_of}
 use Rattle.record_heap.specs.View.{HeapView}
 use Rattle.record_heap.specs.Kept.{IsKept}
 use Rattle.std.proofs.lemmas.List.{map-set}
@@ -44,30 +44,38 @@ invariant_of-self c =
     (unlinked_kept h f.present f.records f.leftovers c.self.invariant b it n leads used)
 
 pub returns-then-not-is_unused-clause-reply : goal.returns-then-not-is_unused-clause-reply
-returns-then-not-is_unused-clause-reply c = λ m a valid s.
+returns-then-not-is_unused-clause-reply c = λ m a stands.
+    let valid = stands.valid in
+    let s = stands.paired in
     let f = c.self.inside in
     let h = f.parts.heap in
     let b = c.in-Some.b in
     let n = c.args.name.0 in
     let leads : address_of h n ≡ Some b = sym c.address.ensures ∙ c.in-Some.is in
     let it = of_name h f.present f.records f.leftovers c.self.invariant n b leads in
-    let now : StandsFor m a h = subst (λ (v : HeapView). StandsFor m a v.heap) (sym c.self.view_is) s in
+    let now : IsPaired m a h = subst (λ (v : HeapView). IsPaired m a v.heap) (sym c.self.view_is) s in
     gone_reply h f.present f.records f.leftovers c.self.invariant b it n leads m a valid now c.value-value.result c.value-value.ensures
 
 pub returns-then-not-is_unused-clause-stands : goal.returns-then-not-is_unused-clause-stands
-returns-then-not-is_unused-clause-stands c = λ m a valid s.
-    let f = c.self.inside in
-    let h = f.parts.heap in
-    let b = c.in-Some.b in
-    let n = c.args.name.0 in
-    let leads : address_of h n ≡ Some b = sym c.address.ensures ∙ c.in-Some.is in
-    let it = of_name h f.present f.records f.leftovers c.self.invariant n b leads in
-    let used : is_unused (without_back n it.o) ≡ false =
-    unused_is (object_at c.unlink.new.self.heap b) (without_back n it.o) c.is_unused.result (ap (λ (v : HeapView). object_at v.heap b) c.unlink.ensures ∙ object_left h f.present f.records f.leftovers c.self.invariant b it n leads) c.is_unused.ensures
-    ∙ c.if-not-is_unused.true in
-    let now : StandsFor m a h = subst (λ (v : HeapView). StandsFor m a v.heap) (sym c.self.view_is) s in
-    subst (λ (k : HeapState). StandsFor (del_step m n (id_of m n)).map a k) (sym (ap (λ (v : HeapView). v.heap) c.unlink.ensures))
-    (unlinked_stands h f.present f.records f.leftovers c.self.invariant b it n leads m a valid now used)
+returns-then-not-is_unused-clause-stands c = λ m a stands.
+    let valid = stands.valid in
+    let s = stands.paired in
+    record {
+      valid = c.law_step.ensures.del m c.args.name.0 valid;
+      paired =
+        let f = c.self.inside in
+        let h = f.parts.heap in
+        let b = c.in-Some.b in
+        let n = c.args.name.0 in
+        let leads : address_of h n ≡ Some b = sym c.address.ensures ∙ c.in-Some.is in
+        let it = of_name h f.present f.records f.leftovers c.self.invariant n b leads in
+        let used : is_unused (without_back n it.o) ≡ false =
+        unused_is (object_at c.unlink.new.self.heap b) (without_back n it.o) c.is_unused.result (ap (λ (v : HeapView). object_at v.heap b) c.unlink.ensures ∙ object_left h f.present f.records f.leftovers c.self.invariant b it n leads) c.is_unused.ensures
+        ∙ c.if-not-is_unused.true in
+        let now : IsPaired m a h = subst (λ (v : HeapView). IsPaired m a v.heap) (sym c.self.view_is) s in
+        subst (λ (k : HeapState). IsPaired (del_step m n (id_of m n)).map a k) (sym (ap (λ (v : HeapView). v.heap) c.unlink.ensures))
+        (unlinked_stands h f.present f.records f.leftovers c.self.invariant b it n leads m a valid now used)
+    }
 
 pub returns-then-not-is_unused-clause-kept : goal.returns-then-not-is_unused-clause-kept
 returns-then-not-is_unused-clause-kept c =
@@ -81,11 +89,13 @@ returns-then-not-is_unused-clause-kept c =
     unused_is (object_at c.unlink.new.self.heap b) (without_back n it.o) c.is_unused.result (ap (λ (v : HeapView). object_at v.heap b) c.unlink.ensures ∙ object_left h f.present f.records f.leftovers c.self.invariant b it n leads) c.is_unused.ensures
     ∙ c.if-not-is_unused.true in
     record {
-      lives = λ m a valid s id is.
-          lives_on h f.present f.records f.leftovers c.self.invariant b it n leads m a valid (subst (λ (v : HeapView). StandsFor m a v.heap) (sym c.self.view_is) s) used id is;
+      lives = λ m a stands id is.
+          let valid = stands.valid in
+          let s = stands.paired in
+          lives_on h f.present f.records f.leftovers c.self.invariant b it n leads m a valid (subst (λ (v : HeapView). IsPaired m a v.heap) (sym c.self.view_is) s) used id is;
       places =
-          ap (λ (v : HeapView). places_of v.heap) c.unlink.ensures
-          ∙ (places_changed h.objects b (without_back n) ∙ ap (λ (v : HeapView). places_of v.heap) c.self.view_is);
+          ap (λ (v : HeapView). places_of v.heap.objects) c.unlink.ensures
+          ∙ (places_changed h.objects b (without_back n) ∙ ap (λ (v : HeapView). places_of v.heap.objects) c.self.view_is);
     }
 
 pub overflow_sub-self-2 : goal.overflow_sub-self-2
@@ -113,31 +123,39 @@ invariant_of-self-2 c =
     (ended_kept h f.present f.records f.leftovers c.self.invariant b it n leads unused)
 
 pub returns-clause-reply : goal.returns-clause-reply
-returns-clause-reply c = λ m a valid s.
+returns-clause-reply c = λ m a stands.
+    let valid = stands.valid in
+    let s = stands.paired in
     let f = c.self.inside in
     let h = f.parts.heap in
     let b = c.in-Some.b in
     let n = c.args.name.0 in
     let leads : address_of h n ≡ Some b = sym c.address.ensures ∙ c.in-Some.is in
     let it = of_name h f.present f.records f.leftovers c.self.invariant n b leads in
-    let now : StandsFor m a h = subst (λ (v : HeapView). StandsFor m a v.heap) (sym c.self.view_is) s in
+    let now : IsPaired m a h = subst (λ (v : HeapView). IsPaired m a v.heap) (sym c.self.view_is) s in
     gone_reply h f.present f.records f.leftovers c.self.invariant b it n leads m a valid now c.value-value.result c.value-value.ensures
 
 pub returns-clause-stands : goal.returns-clause-stands
-returns-clause-stands c = λ m a valid s.
-    let f = c.self.inside in
-    let h = f.parts.heap in
-    let b = c.in-Some.b in
-    let n = c.args.name.0 in
-    let leads : address_of h n ≡ Some b = sym c.address.ensures ∙ c.in-Some.is in
-    let it = of_name h f.present f.records f.leftovers c.self.invariant n b leads in
-    let unused : is_unused (without_back n it.o) ≡ true =
-    unused_is (object_at c.unlink.new.self.heap b) (without_back n it.o) c.is_unused.result (ap (λ (v : HeapView). object_at v.heap b) c.unlink.ensures ∙ object_left h f.present f.records f.leftovers c.self.invariant b it n leads) c.is_unused.ensures
-    ∙ c.if-not-is_unused.false in
-    let now : StandsFor m a h = subst (λ (v : HeapView). StandsFor m a v.heap) (sym c.self.view_is) s in
-    subst (λ (k : HeapState). StandsFor (del_step m n (id_of m n)).map a k)
-    (sym (ap (λ (v : HeapView). v.heap) c.end.ensures.parts ∙ ap (λ (v : HeapView). with_object v.heap b None) c.unlink.ensures))
-    (ended_stands h f.present f.records f.leftovers c.self.invariant b it n leads m a valid now unused)
+returns-clause-stands c = λ m a stands.
+    let valid = stands.valid in
+    let s = stands.paired in
+    record {
+      valid = c.law_step.ensures.del m c.args.name.0 valid;
+      paired =
+        let f = c.self.inside in
+        let h = f.parts.heap in
+        let b = c.in-Some.b in
+        let n = c.args.name.0 in
+        let leads : address_of h n ≡ Some b = sym c.address.ensures ∙ c.in-Some.is in
+        let it = of_name h f.present f.records f.leftovers c.self.invariant n b leads in
+        let unused : is_unused (without_back n it.o) ≡ true =
+        unused_is (object_at c.unlink.new.self.heap b) (without_back n it.o) c.is_unused.result (ap (λ (v : HeapView). object_at v.heap b) c.unlink.ensures ∙ object_left h f.present f.records f.leftovers c.self.invariant b it n leads) c.is_unused.ensures
+        ∙ c.if-not-is_unused.false in
+        let now : IsPaired m a h = subst (λ (v : HeapView). IsPaired m a v.heap) (sym c.self.view_is) s in
+        subst (λ (k : HeapState). IsPaired (del_step m n (id_of m n)).map a k)
+        (sym (ap (λ (v : HeapView). v.heap) c.end.ensures.parts ∙ ap (λ (v : HeapView). with_object v.heap b None) c.unlink.ensures))
+        (ended_stands h f.present f.records f.leftovers c.self.invariant b it n leads m a valid now unused)
+    }
 
 pub returns-clause-out : goal.returns-clause-out
 returns-clause-out c =
@@ -157,14 +175,16 @@ returns-clause-out c =
             of = subst (λ (v : HeapView). IsBufferOf v.home.cells c.end.result) (c.unlink.ensures ∙ ap (λ (v : HeapView). record v { heap = unlinked v.heap n b }) c.self.view_is) c.end.ensures.buf.1;
             blank = c.end.ensures.object;
           };
-      ended = λ m a valid s id is.
-          let e = ends_now h f.present f.records f.leftovers c.self.invariant b it n leads m a valid (subst (λ (v : HeapView). StandsFor m a v.heap) (sym c.self.view_is) s) unused id is in
+      ended = λ m a stands id is.
+          let valid = stands.valid in
+          let s = stands.paired in
+          let e = ends_now h f.present f.records f.leftovers c.self.invariant b it n leads m a valid (subst (λ (v : HeapView). IsPaired m a v.heap) (sym c.self.view_is) s) unused id is in
           (e.0, e.1 ∙ sym number);
       address = ap (λ (v : HeapView). address_of v.heap n) (sym c.self.view_is) ∙ (leads ∙ ap Some (sym number));
       places =
-          ap (λ (v : HeapView). places_of v.heap) c.end.ensures.parts
+          ap (λ (v : HeapView). places_of v.heap.objects) c.end.ensures.parts
           ∙ (map-set is_some c.unlink.new.self.heap.objects b None
           ∙ (ap₂ (λ (xs : List Bool) (i : ℕ). set xs i false)
-          (ap (λ (v : HeapView). places_of v.heap) c.unlink.ensures ∙ (places_changed h.objects b (without_back n) ∙ ap (λ (v : HeapView). places_of v.heap) c.self.view_is))
+          (ap (λ (v : HeapView). places_of v.heap.objects) c.unlink.ensures ∙ (places_changed h.objects b (without_back n) ∙ ap (λ (v : HeapView). places_of v.heap.objects) c.self.view_is))
           (sym number)));
     }

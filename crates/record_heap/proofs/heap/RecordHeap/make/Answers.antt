@@ -1,7 +1,7 @@
 use Rattle.std.proofs.Common.{◌≡◌, ◌+◌, ◌<◌, true, Option, Some, None, [], ◌∷◌, ◌++◌, length, set, is_some, sym, ap, ◌∙◌, subst, arith}
 use Rattle.std.proofs.lemmas.List.Sums.{count_by-le-length}
 use Rattle.kmem_model.specs.Records.{id_of}
-use Rattle.kmem_model.specs.Heap.{Object, HeapState, StandsFor, address_of, places_of, has_record, is_leftover}
+use Rattle.kmem_model.specs.Heap.{Object, HeapState, IsPaired, address_of, places_of, has_record, is_leftover}
 use Rattle.record_heap.specs.View.{HeapView}
 use Rattle.record_heap.specs.Kept.{IsKept}
 use Rattle.std.proofs.lemmas.List.{map-set}
@@ -9,6 +9,7 @@ use Rattle.kmem_model.specs.RecordStep.{put_step}
 use Rattle.record_heap.specs.Changes.{made, first_object}
 use Rattle.record_heap.proofs.Kept.{one_if}
 use Rattle.record_heap.proofs.Puts.{made_kept, made_stands, empty_free}
+use Rattle.record_heap.proofs.Sizes.{names_size, tags_size, address_below}
 use Rattle.record_heap.proofs.heap.RecordHeap.make.Goals as goal
 
 pub overflow_add-self : goal.overflow_add-self
@@ -34,20 +35,26 @@ invariant_of-self c =
     (made_kept h f.present f.records f.leftovers c.self.invariant n b c.args.value below c.make.ensures.range was (empty_free h f.present f.records f.leftovers c.self.invariant b c.make.ensures.empty) (ap has_record c.make.ensures.empty) f.leftovers (omega (arith, ap (λ (x : Option Object). one_if (is_leftover x)) c.make.ensures.empty)))
 
 pub returns-clause-new : goal.returns-clause-new
-returns-clause-new c = λ m a valid s.
-    let f = c.self.inside in
-    let h = f.parts.heap in
-    let b = c.args.buf.number in
-    let n = c.args.name.0 in
-    let below : n < length h.names = omega (arith, c.requires.name, ap (λ (v : HeapView). length v.heap.names) c.self.view_is) in
-    let was : address_of h n ≡ None = ap (λ (v : HeapView). address_of v.heap n) c.self.view_is ∙ c.requires.absent in
-    subst (λ (k : HeapState). StandsFor (put_step m n c.args.value (id_of m n)).map (a ++ b ∷ []) k) (sym (ap (λ (v : HeapView). v.heap) c.make.ensures.parts))
-    (made_stands h f.present f.records f.leftovers c.self.invariant n b c.args.value below c.make.ensures.range was (empty_free h f.present f.records f.leftovers c.self.invariant b c.make.ensures.empty) (ap has_record c.make.ensures.empty) m a valid
-    (subst (λ (v : HeapView). StandsFor m a v.heap) (sym c.self.view_is) s))
+returns-clause-new c = λ m a stands.
+    let valid = stands.valid in
+    let s = stands.paired in
+    record {
+      valid = c.law_step.ensures.put m c.args.name.0 c.args.value valid (omega (arith, c.requires.name, names_size m a c.args.self.now.heap s));
+      paired =
+        let f = c.self.inside in
+        let h = f.parts.heap in
+        let b = c.args.buf.number in
+        let n = c.args.name.0 in
+        let below : n < length h.names = omega (arith, c.requires.name, ap (λ (v : HeapView). length v.heap.names) c.self.view_is) in
+        let was : address_of h n ≡ None = ap (λ (v : HeapView). address_of v.heap n) c.self.view_is ∙ c.requires.absent in
+        subst (λ (k : HeapState). IsPaired (put_step m n c.args.value (id_of m n)).map (a ++ b ∷ []) k) (sym (ap (λ (v : HeapView). v.heap) c.make.ensures.parts))
+        (made_stands h f.present f.records f.leftovers c.self.invariant n b c.args.value below c.make.ensures.range was (empty_free h f.present f.records f.leftovers c.self.invariant b c.make.ensures.empty) (ap has_record c.make.ensures.empty) m a valid
+        (subst (λ (v : HeapView). IsPaired m a v.heap) (sym c.self.view_is) s))
+    }
 
 pub returns-clause-places : goal.returns-clause-places
 returns-clause-places c =
     let h = c.self.inside.parts.heap in
     let b = c.args.buf.number in
-    ap (λ (v : HeapView). places_of v.heap) c.make.ensures.parts
-    ∙ (map-set is_some h.objects b (Some (first_object c.args.name.0 c.args.value)) ∙ ap (λ (v : HeapView). set (places_of v.heap) b true) c.self.view_is)
+    ap (λ (v : HeapView). places_of v.heap.objects) c.make.ensures.parts
+    ∙ (map-set is_some h.objects b (Some (first_object c.args.name.0 c.args.value)) ∙ ap (λ (v : HeapView). set (places_of v.heap.objects) b true) c.self.view_is)

@@ -1,5 +1,5 @@
 use Rattle.std.proofs.Common.{ℕ, ◌-◌, false, Some, None, set, is_some, sym, ap, ap₂, ◌∙◌, subst}
-use Rattle.kmem_model.specs.Heap.{HeapState, StandsFor, object_at, places_of, is_leftover, blank}
+use Rattle.kmem_model.specs.Heap.{HeapState, IsPaired, object_at, places_of, is_leftover, blank}
 use Rattle.record_heap.specs.View.{HeapView}
 use Rattle.record_heap.specs.Kept.{IsKept}
 use Rattle.std.proofs.lemmas.List.{map-set}
@@ -24,13 +24,19 @@ returns-clause-buf c =
     )
 
 pub returns-clause-stands : goal.returns-clause-stands
-returns-clause-stands c = λ m a valid s.
-    let f = c.self.inside in
-    subst (λ (k : HeapState). StandsFor m a k) (sym (ap (λ (v : HeapView). v.heap) c.take_out.ensures.parts))
-    (without_stands f.parts.heap f.present f.records f.leftovers c.self.invariant c.in_ok-b.b (ap (λ (v : HeapView). is_leftover (object_at v.heap c.in_ok-b.b)) c.self.view_is ∙ c.in_ok-b.ensures.found) m a (subst (λ (v : HeapView). StandsFor m a v.heap) (sym c.self.view_is) s))
+returns-clause-stands c = λ m a stands.
+    let valid = stands.valid in
+    let s = stands.paired in
+    record {
+      valid = valid;
+      paired =
+        let f = c.self.inside in
+        subst (λ (k : HeapState). IsPaired m a k) (sym (ap (λ (v : HeapView). v.heap) c.take_out.ensures.parts))
+        (without_stands f.parts.heap f.present f.records f.leftovers c.self.invariant c.in_ok-b.b (ap (λ (v : HeapView). is_leftover (object_at v.heap c.in_ok-b.b)) c.self.view_is ∙ c.in_ok-b.ensures.found) m a (subst (λ (v : HeapView). IsPaired m a v.heap) (sym c.self.view_is) s))
+    }
 
 pub returns-clause-places : goal.returns-clause-places
 returns-clause-places c =
     let f = c.self.inside in
-    ap (λ (v : HeapView). places_of v.heap) c.take_out.ensures.parts
-    ∙ (map-set is_some f.parts.heap.objects c.in_ok-b.b None ∙ ap₂ (λ (v : HeapView) (i : ℕ). set (places_of v.heap) i false) c.self.view_is (sym c.take_out.ensures.buf.0))
+    ap (λ (v : HeapView). places_of v.heap.objects) c.take_out.ensures.parts
+    ∙ (map-set is_some f.parts.heap.objects c.in_ok-b.b None ∙ ap₂ (λ (v : HeapView) (i : ℕ). set (places_of v.heap.objects) i false) c.self.view_is (sym c.take_out.ensures.buf.0))
