@@ -11,7 +11,6 @@ use Rattle.record_heap.specs.View.{HeapView}
 use Rattle.consolidator.specs.Tallies.{counted_all, tally_of}
 use Rattle.consolidator.specs.Settles.{HeapMoves}
 
-
 -- within that scan
 pub record IsOnScan (old now : CacheState) (heap heap_now : HeapView) (tally tally_now : Tally) (gained : Bool) : Type 0 where
   pub moves : List EndedMove

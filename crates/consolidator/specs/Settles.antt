@@ -17,7 +17,8 @@ use Rattle.consolidator.specs.Tallies.{counted_all, tally_of}
 
 -- the heap stands for the same map after these moves, at the addresses that they lead to
 pub record HeapMoves (old : HeapView) (moves : List EndedMove) (new : HeapView) : Type 0 where
-  pub stands : (m : RecordMap) (addresses : List ℕ) → StandsFor m addresses old.heap → StandsFor m (addresses_moved addresses moves) new.heap
+  pub stands : (m : RecordMap) (addresses : List ℕ) → StandsFor m addresses old.heap →
+      StandsFor m (addresses_moved addresses moves) new.heap
   pub frame : IsFrame old new
 
 -- the scan that this cache begins with this heap ends at that one, with or without an answer that frees an old buffer
@@ -31,8 +32,12 @@ pub record ScansTo (old new : CacheState) (heap heap_after : HeapView) (tally ta
 -- the settle of this cache with this heap ends at that one, by these moves, each of which is counted, and makes just these entries
 pub record SettlesTo (old new : CacheView) (heap heap_after : HeapView) (tally : Tally) : Type 0 where
   pub moves : List EndedMove
-  pub settle : settled (stage_in old.state heap.heap.objects) ≡ Some (record { stage = stage_in new.state heap_after.heap.objects; moves = moves })
+  pub settle : settled (stage_in old.state heap.heap.objects) ≡
+      Some (record { stage = stage_in new.state heap_after.heap.objects; moves = moves })
   pub counts : tally ≡ tally_of moves
   pub entries : List CacheEntry
-  pub made : AreEntriesOf (stage_in old.state heap.heap.objects) (record { stage = stage_in new.state heap_after.heap.objects; moves = moves }) entries
+  pub made : AreEntriesOf (stage_in old.state heap.heap.objects) (record {
+    stage = stage_in new.state heap_after.heap.objects;
+    moves = moves;
+  }) entries
   pub heap_moves : HeapMoves heap moves heap_after

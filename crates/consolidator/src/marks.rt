@@ -4,7 +4,6 @@ ghost use Rattle.std.specs.Prelude.{◌≡◌, ◌<◌, ◌↔◌, true, length,
 ghost use Rattle.kmem_model.specs.CacheState.{slab_at};
 ghost use Rattle.kmem_model.specs.CacheOrder.{is_partial, is_marked};
 ghost use Rattle.kmem_model.specs.Settle.{is_rest_marked};
-ghost use Rattle.kmem_model.specs.SettleWhole.{IsWhole};
 
 use kmem_buf::Kind;
 use kmem_model::law_rest_marked;
@@ -13,7 +12,6 @@ use object_cache::{ObjectCache, SlabLine};
 /// Whether every partial slab after the first has a mark. Since marked ones come first, this is so where at most one has none, and that one
 /// is the only partial slab. One pass over the slabs.
 pub fn is_rest_marked<K: Kind>(cache: &ObjectCache<K>) -> bool
-    requires { IsWhole cache.now.state }
     ensures { result ≡ is_rest_marked cache.now.state.slabs }
 {
     law_rest_marked();
@@ -33,11 +31,11 @@ pub fn is_rest_marked<K: Kind>(cache: &ObjectCache<K>) -> bool
 
 // What the slab shows, where it is partial.
 fn partial_line<K: Kind>(cache: &ObjectCache<K>, slab: u32) -> Option<SlabLine>
-    requires whole { IsWhole cache.now.state }
-    requires slab { slab < length cache.now.state.slabs }
+    requires { slab < length cache.now.state.slabs }
     ensures partial { IsSome result ↔ (is_partial (slab_at cache.now.state.slabs slab) ≡ true) }
     ensures mark { IfSome result (λ line. is_some line.stuck ≡ is_marked (slab_at cache.now.state.slabs slab)) }
 {
+    cache.law_whole();
     let line = cache.line(slab)?;
     if 0 < line.used && line.used < cache.chunks() {
         Some(line)

@@ -4,7 +4,7 @@ ghost use Rattle.std.specs.Prelude.{◌≡◌, false};
 ghost use Rattle.kmem_model.specs.CacheState.{has_pending};
 ghost use Rattle.kmem_model.specs.Says.{stage_in, AreInBuffers};
 ghost use Rattle.kmem_model.specs.Settle.{gains};
-ghost use Rattle.kmem_model.specs.SettleWhole.{IsWhole, IsWholeStage, IsSettled};
+ghost use Rattle.kmem_model.specs.SettleWhole.{IsWholeStage, IsSettled};
 ghost use Rattle.kmem_answers.specs.Words.{said_of};
 ghost use Rattle.consolidator.specs.Settles.{ScansTo, SettlesTo};
 
@@ -19,7 +19,6 @@ use record_heap::{RecordHeap, RecordKind};
 /// once by the heap's answer, until a scan has nothing more to gain. Takes no memory. A scan costs a pass over the slabs for each of its
 /// moves, and clears what was noted of each buffer.
 pub fn settle(cache: &mut ObjectCache<RecordKind>, heap: &mut RecordHeap) -> Tally
-    requires whole { IsWhole cache.old.state }
     requires calm { has_pending cache.old.state ≡ false }
     requires buffers { AreInBuffers cache.old.state heap.old.heap.objects }
     requires home { heap.old.home ≡ cache.old.home }
@@ -28,10 +27,11 @@ pub fn settle(cache: &mut ObjectCache<RecordKind>, heap: &mut RecordHeap) -> Tal
     ensures settles { SettlesTo cache.old cache.new heap.old heap.new result }
     // What it leaves.
     ensures settled { IsSettled (stage_in cache.new.state heap.new.heap.objects) }
-    ensures whole { IsWhole cache.new.state × (has_pending cache.new.state ≡ false) }
+    ensures calm { has_pending cache.new.state ≡ false }
     ensures buffers { AreInBuffers cache.new.state heap.new.heap.objects }
     ensures home { cache.new.home ≡ cache.old.home }
 {
+    cache.law_whole();
     law_stage();
     law_scans();
     law_settle();

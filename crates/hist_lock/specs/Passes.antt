@@ -53,7 +53,8 @@ IsObjectOf stands home_of home history object = stands object history × (home_o
 -- stood for the history, and left it standing for the history with the entry at its end; of these two, its answer is the
 -- turn's; and the pass has then seen that history
 pub record IsTurn {O E H Out : Type 0} (stands : O → List (ℕ × E) → Type 0) (home_of : O → H)
-    (tells : O → O → List (ℕ × E) → Out → Option E → Type 0) (old new : PassState E H) (out : Out) (history : List (ℕ × E)) (entry : Option E) : Type 0 where
+    (tells : O → O → List (ℕ × E) → Out → Option E → Type 0) (old new : PassState E H) (out : Out) (history : List (ℕ ×
+    E)) (entry : Option E) : Type 0 where
   pub met : MayMeet old history
   pub before : O
   pub after : O

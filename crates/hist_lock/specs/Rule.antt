@@ -69,7 +69,8 @@ module _ {E H : Type 0} where
     pub ticket : length (tickets_of v) ≤ length v.claims
 
 -- the value is at home: its journal is the history, and its object stands for it
-pub record IsHome {O E H : Type 0} (bounds : Bounds H) (stands : O → List (ℕ × E) → Type 0) (home_of : O → H) (log : List (ℕ × E)) (held : Held O E) : Type 0 where
+pub record IsHome {O E H : Type 0} (bounds : Bounds H) (stands : O → List (ℕ × E) → Type 0) (home_of : O →
+    H) (log : List (ℕ × E)) (held : Held O E) : Type 0 where
   pub journal : held.journal.items ≡ log
   pub stood : stands held.object log
   pub home : home_of held.object ≡ bounds.home
@@ -85,7 +86,8 @@ IsOut {E} {H} views = (id : ℕ) × (v : View E H) × (get_elem? views id ≡ so
 
 -- There is one history. The tickets that are out are the next ones to serve, each once; the numbers that were dealt are the
 -- first ones, each once, and the history has entries of no others; there is room for all entries that may still be made
-pub record OneLog {O E H : Type 0} (bounds : Bounds H) (stands : O → List (ℕ × E) → Type 0) (home_of : O → H) (s : State (Held O E) (View E H)) : Type 0 where
+pub record OneLog {O E H : Type 0} (bounds : Bounds H) (stands : O → List (ℕ × E) → Type 0) (home_of : O →
+    H) (s : State (Held O E) (View E H)) : Type 0 where
   pub small : (bounds.room < 2 ^ 32) × (bounds.count < 2 ^ 32)
   pub serving : ℕ
   pub waiting : ℕ

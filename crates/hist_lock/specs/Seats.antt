@@ -46,7 +46,8 @@ abbrev pub IsSameView : {E H : Type 0} → View E H → View E H → Type 0
 IsSameView v w = (w.bounds ≡ v.bounds) × (w.left ≡ v.left)
 
 -- the seat has taken the value, and has seen its journal
-pub record HasEntered {O E H : Type 0} (stands : O → List (ℕ × E) → Type 0) (home_of : O → H) (v : View E H) (held : Held O E) (me : Sat O E H) : Type 0 where
+pub record HasEntered {O E H : Type 0} (stands : O → List (ℕ × E) → Type 0) (home_of : O →
+    H) (v : View E H) (held : Held O E) (me : Sat O E H) : Type 0 where
   pub holds : IsAt Holding ((0, held) ∷ []) me
   pub same : IsSameView v me.0
   pub claim : own me.0 ≡ with_journal held.journal.items (own v)
@@ -54,10 +55,12 @@ pub record HasEntered {O E H : Type 0} (stands : O → List (ℕ × E) → Type 
 
 -- the turn ran on the object, and the journal is as it was
 pub record HasRun {O E H Out : Type 0} (stands : O → List (ℕ × E) → Type 0) (home_of : O → H) (can : H → List (ℕ × E) → Type 0)
-    (tells : H → O → O → List (ℕ × E) → Out → Option E → Type 0) (who : ℕ) (old new : Held O E) (out : Out) (entry : Option E) : Type 0 where
+    (tells : H → O → O → List (ℕ × E) → Out → Option E →
+    Type 0) (who : ℕ) (old new : Held O E) (out : Out) (entry : Option E) : Type 0 where
   pub journal : new.journal ≡ old.journal
   pub home : home_of new.object ≡ home_of old.object
-  pub ran : (h : List (ℕ × E)) → stands old.object h → can (home_of old.object) h → stands new.object (told h who entry) × tells (home_of old.object) old.object new.object h out entry
+  pub ran : (h : List (ℕ × E)) → stands old.object h → can (home_of old.object) h → stands new.object (told h who entry) ×
+      tells (home_of old.object) old.object new.object h out entry
 
 -- the entry is in the journal and in the history, if there is one
 pub record HasNoted {O E H : Type 0} (entry : Option E) (old new : Held O E) (v : View E H) (me : Sat O E H) : Type 0 where

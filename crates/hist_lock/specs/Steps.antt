@@ -42,7 +42,15 @@ module _ {E H : Type 0} where
   dealt_one quota v = record v { dealt = Some (dealt_of v + 1); left = v.left - quota }
 
   abbrev pub newcomer : ℕ → View E H → View E H
-  newcomer quota v = record { bounds = v.bounds; dealt = None; left = quota; stage = Idle; ticket = 0; claims = record { number = dealt_of v; seen = []; mine = [] } ∷ [] }
+  newcomer quota v =
+      record {
+        bounds = v.bounds;
+        dealt = None;
+        left = quota;
+        stage = Idle;
+        ticket = 0;
+        claims = record { number = dealt_of v; seen = []; mine = [] } ∷ [];
+      }
 
 module _ {O E : Type 0} where
   -- the journal of the slot in hand
@@ -70,10 +78,12 @@ module _ {O E H : Type 0} where
     pub stood : stands held.object held.journal.items
     pub front : IsFront (own v).seen held.journal.items
     pub exact : entries_of (own v).number held.journal.items ≡ (own v).mine
-    pub within : (b : Bounds H) → v.bounds ≡ Some b → (home_of held.object ≡ b.home) × (length held.journal.items + v.left ≤ b.room) × (b.room < 2 ^ 32) × (b.room ≤ vec_capacity held.journal)
+    pub within : (b : Bounds H) → v.bounds ≡ Some b → (home_of held.object ≡ b.home) × (length held.journal.items + v.left ≤ b.room) ×
+        (b.room < 2 ^ 32) × (b.room ≤ vec_capacity held.journal)
 
   abbrev pub Takes : (O → List (ℕ × E) → Type 0) → (O → H) → Step (Held O E) → Sat O E H → ℕ → Sat O E H → Type 0
-  Takes stands home_of s me found me' = (held : Held O E) × (me' ≡ (took held.journal.items me.0, (0, held) ∷ [])) × IsFound stands home_of me.0 held
+  Takes stands home_of s me found me' = (held : Held O E) × (me' ≡ (took held.journal.items me.0, (0, held) ∷ [])) ×
+      IsFound stands home_of me.0 held
 
   abbrev pub Raises : Step (Held O E) → Sat O E H → ℕ → Sat O E H → Type 0
   Raises s me found me' = me' ≡ (raised (journal_of me.1) me.0, me.1)

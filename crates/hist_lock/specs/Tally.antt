@@ -23,4 +23,5 @@ MayAdd site pass found room = (pass.site ≡ site) × (pass.left ≤ 10000) × (
 
 -- the pass has nothing left, and each of its turns found what the entries before its own add up to
 abbrev pub IsDone : Site ℕ → ℕ → PassState ℕ ℕ → List ℕ → Type 0
-IsDone site number pass found = (pass.site ≡ site) × (pass.number ≡ number) × (pass.left ≡ 0) × (found ≡ sums_before 0 number pass.seen) × (entries_of number pass.seen ≡ pass.mine)
+IsDone site number pass found = (pass.site ≡ site) × (pass.number ≡ number) × (pass.left ≡ 0) ×
+    (found ≡ sums_before 0 number pass.seen) × (entries_of number pass.seen ≡ pass.mine)

@@ -40,7 +40,8 @@ numbers_of (b ∷ bs) = b.number ∷ numbers_of bs
 -- the answer hands back the buffers of its kind, each constructed and of these cells
 abbrev pub IsAnswerTo : {K X : Type 0} → (X → Type 0) → List TableId → ℕ → ℕ → Answer K X → Type 0
 IsAnswerTo constructed cells from to a =
-    (numbers_of (buffers_back a) ≡ numbers_back (verdict_of a) from to) × All (λ b. constructed b.object × IsBufferOf cells b) (buffers_back a)
+    (numbers_of (buffers_back a) ≡ numbers_back (verdict_of a) from to) ×
+    All (λ b. constructed b.object × IsBufferOf cells b) (buffers_back a)
 
 -- for each of the five answers, whether it was ever given (this project's own)
 pub record Flags : Type 0 where

@@ -39,7 +39,8 @@ FitsPlace stub slip out i (Out f) = (i ≡ slip) × (out ≡ some f)
 FitsPlace stub slip out i Clashed = ⊥
 FitsPlace stub slip out i Gone = Unit {0}
 
--- one seat at most is a stub's and one a slip's. Where there is a slip, the stub is issued with its facts, and what a stub has met had its facts
+-- one seat at most is a stub's and one a slip's. Where there is a slip, the stub is issued with its facts, and what a stub has met had
+-- its facts
 pub record AreTied (views : List View) : Type 0 where
   pub stub : ℕ
   pub slip : ℕ

@@ -12,7 +12,10 @@ pub record BufState (X : Type 0) : Type 0 where
 -- a buffer is stored as its three parts
 abbrev pub buf_code : {X : Type 0} → Coded X → Coded (BufState X)
 buf_code {X} c =
-    code_by (ℕ × (X × TableId)) (coded× coded_ℕ (coded× c table_id_coded)) (λ b. (b.number, (b.object, b.home))) (λ p. record { number = p.0; object = p.1.0; home = p.1.1 }) (λ _. refl)
+    code_by (ℕ × (X × TableId)) (coded× coded_ℕ (coded× c table_id_coded)) (λ b. (
+      b.number,
+      (b.object, b.home),
+    )) (λ p. record { number = p.0; object = p.1.0; home = p.1.1 }) (λ _. refl)
 
 -- a cell: the number of its buffer, whether that is out, and the cell's home
 pub record CellState : Type 0 where

@@ -49,7 +49,8 @@ impl<X> Buffer<X> {
 
     /// The object, to be changed in place.
     pub fn object_mut(&mut self) -> &mut X
-        ensures* writes_back { sem 𝓛 (Lends (the_row X.row) X.row self.entry result (λ object. record { number = self.old.number; object = object; home = self.old.home })) }
+        ensures* writes_back { sem 𝓛 (Lends (the_row X.row) X.row self.entry result
+            (λ object. record { number = self.old.number; object = object; home = self.old.home })) }
         ensures value { result.now ≡ self.old.object }
     {
         &mut self.object

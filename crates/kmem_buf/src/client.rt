@@ -63,7 +63,8 @@ pub trait MoveClient<K: Kind> {
         ensures flags { flags self.new ≡ flagged (verdict_of result) (flags self.old) }
         ensures last { last self.new ≡ Some (verdict_of result) }
         ensures answered { answered self.new ≡ (answered self.old + 1) % 2 ^ 64 }
-        ensures counts { (brought self.new ≡ brought self.old + brought_by (verdict_of result)) × (fetched self.new ≡ fetched self.old + fetched_by (verdict_of result)) };
+        ensures counts { (brought self.new ≡ brought self.old + brought_by (verdict_of result)) ×
+            (fetched self.new ≡ fetched self.old + fetched_by (verdict_of result)) };
 }
 
 impl<K: Kind> Answer<K> {

@@ -28,7 +28,8 @@ impl Model for Stub {
 
     ghost view = { λ s. record { home = s.seat.table_id; issued = is_issued s.seat.me.0; facts = facts_of s.seat.me.0 } };
 
-    ghost invariant = { λ s. (s.table.shared.table_id ≡ s.seat.table_id) × (s.seat.table_id.words ≡ 1) × (s.seat.me.1 ≡ []) × HasKey s.seat.me.0 s.seat.table_id s.key.table_id s.key.id s.key.views };
+    ghost invariant = { λ s. (s.table.shared.table_id ≡ s.seat.table_id) × (s.seat.table_id.words ≡ 1) × (s.seat.me.1 ≡ []) ×
+        HasKey s.seat.me.0 s.seat.table_id s.key.table_id s.key.id s.key.views };
 }
 
 /// What the holder has. It has no bytes, and no copy can be made. One that is dropped leaves its stub issued for good.
@@ -48,7 +49,8 @@ impl Model for Slip {
 
     ghost view = { λ s. record { home = s.seat.table_id; facts = facts_in s.seat.views } };
 
-    ghost invariant = { λ s. (s.seat.views ≡ Out (facts_in s.seat.views) ∷ []) × (s.key.table_id ≡ s.seat.table_id) × (s.key.id ≡ 0) × (s.key.views ≡ Gone ∷ []) };
+    ghost invariant = { λ s. (s.seat.views ≡ Out (facts_in s.seat.views) ∷ []) × (s.key.table_id ≡ s.seat.table_id) × (s.key.id ≡ 0) ×
+        (s.key.views ≡ Gone ∷ []) };
 }
 
 impl Stub {

@@ -39,7 +39,8 @@ impl<R: Room> Model for Shelf<R> {
 
     ghost view = { λ s. (s.item, s.is_lent) };
 
-    ghost invariant = { λ s. (s.stub.home ≡ R.home) × (s.stub.issued ≡ s.is_lent) × (s.is_lent ≡ true → s.stub.facts ≡ s.item ∷ 0 ∷ 0 ∷ []) };
+    ghost invariant = { λ s. (s.stub.home ≡ R.home) × (s.stub.issued ≡ s.is_lent) ×
+        (s.is_lent ≡ true → s.stub.facts ≡ s.item ∷ 0 ∷ 0 ∷ []) };
 }
 
 #[derive(Drop)]

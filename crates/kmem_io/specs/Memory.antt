@@ -10,7 +10,8 @@ pub record Reading : Type 0 where
   pub calls : ℕ
   pub faults : ℕ
 
--- what a sink in memory holds, and how it takes more: at most `step` bytes a call and `room` in all, failing at the calls numbered in `fail_at`
+-- what a sink in memory holds, and how it takes more: at most `step` bytes a call and `room` in all, failing at the calls numbered in
+-- `fail_at`
 pub record Writing : Type 0 where
   pub written : List ℕ
   pub room : ℕ

@@ -30,6 +30,12 @@ Appends-kept (Some x) (Some y) None xs p q = absurd q
 Appends-kept (Some x) (Some y) (Some z) xs p q = q ∙ p
 
 -- a piece was appended, and then a front of the next, so a front of the whole was
-pub AppendsFront-behind : (a b c : Option (List ℕ)) (before piece rest whole : List ℕ) → Appends a b before → before ++ (piece ++ rest) ≡ whole → AppendsFront b c piece → AppendsFront a c whole
-AppendsFront-behind a b c before piece rest whole p same q =
-    (before ++ q.0, q.1 ++ rest, sym same ∙ ap (λ xs. before ++ (xs ++ rest)) q.2 ∙ ap (λ xs. before ++ xs) (append_assoc q.0 q.1 rest) ∙ sym (append_assoc before q.0 (q.1 ++ rest)), Appends-then a b c before q.0 p q.3)
+pub AppendsFront-behind : (a b c : Option (List ℕ)) (before piece rest whole : List ℕ) → Appends a b before → before
+    ++ (piece ++ rest) ≡ whole → AppendsFront b c piece → AppendsFront a c whole
+AppendsFront-behind a b c before piece rest whole p same q = (
+  before ++ q.0,
+  q.1 ++ rest,
+  sym same ∙ ap (λ xs. before ++ (xs ++ rest)) q.2 ∙ ap (λ xs. before ++ xs) (append_assoc q.0 q.1 rest)
+      ∙ sym (append_assoc before q.0 (q.1 ++ rest)),
+  Appends-then a b c before q.0 p q.3,
+)

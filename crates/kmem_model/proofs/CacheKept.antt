@@ -150,7 +150,7 @@ all_freed_kept (b ∷ bs) s t e kept =
     let (x, e1, e2) = and_then_says (λ next. all_freed next bs) (freed s b) t e in
     all_freed_kept bs x t e2 (freed_state_kept s x b e1 kept)
 
-without_move_kept : (s : CacheState) (j : ℕ) → IsKeptState s → IsKeptState (without_move s j)
+pub without_move_kept : (s : CacheState) (j : ℕ) → IsKeptState s → IsKeptState (without_move s j)
 without_move_kept s j kept = by_pending (has_pending next)
   where
     next : CacheState
@@ -165,7 +165,7 @@ without_move_kept s j kept = by_pending (has_pending next)
               (λ i d below. given_back_kept s.chunks (get_or s.slabs i d) (kept.slabs i d below));
         }
 
-with_answer_kept : (s : CacheState) (b : ℕ) (said : Said) → IsKeptState s → IsKeptState (with_answer s b said)
+pub with_answer_kept : (s : CacheState) (b : ℕ) (said : Said) → IsKeptState s → IsKeptState (with_answer s b said)
 with_answer_kept s b said kept = by_out (is_out s b)
   where
     by_out : (x : Bool) → IsKeptState (cond x (on_slab_of s b (slab_answered said)) s)

@@ -9,7 +9,7 @@ use Rattle.std.proofs.lemmas.List.Sums.{get_or-le-sum_by}
 use Rattle.kmem_model.proofs.CacheLists.{reads_within, any-set_some}
 use Rattle.kmem_model.proofs.PlacesKept.{then_some_says, and_then_says}
 use Rattle.kmem_model.proofs.CacheChoices.{map_says}
-use Rattle.kmem_model.proofs.CacheKept.{FitsCount, IsKeptSlab, IsKeptState, enter_kept, opening_kept}
+use Rattle.kmem_model.proofs.CacheKept.{FitsCount, IsKeptSlab, IsKeptState, enter_kept, with_answer_kept, without_move_kept, opening_kept}
 use Rattle.kmem_model.specs.CacheState.{sizes_of, SlabState, CacheState, is_same_standing, no_slab, slab_at, slab_in_source, is_listed, is_dead, used, is_out_on, is_out, move_at, has_pending, opening}
 use Rattle.kmem_model.specs.CacheOrder.{is_the}
 use Rattle.kmem_model.specs.CacheEnter.{unmarked, slab_taken, slab_freed, slab_never, slab_later, slab_given_back, slab_answered, on_slab_of, with_move, emptied_goes, freed, all_freed, handed_back, without_move, with_answer, scan_started, gone, ended, enter}
@@ -531,25 +531,44 @@ whole_kept s whole =
 pub whole_marks : (s : CacheState) → IsWhole s → All HasGoodMarks s.slabs
 whole_marks s whole i d below = slab_marks s.chunks (get_or s.slabs i d) (whole.slabs i d below)
 
--- every entry keeps a cache whole
-pub enter_whole : (s t : CacheState) (entry : CacheEntry) → IsWhole s → enter s entry ≡ Some t → IsWhole t
-enter_whole s t entry whole e =
+whole_from : (s t : CacheState) → AreSameSizes s t → IsKeptState t → All HasGoodMarks t.slabs → IsDeadInMoves t → IsWhole s → IsWhole t
+whole_from s t sizes kept good dead whole =
     record {
       positive = kept.positive;
       slabs = λ i d below. whole_slab t.chunks (get_or t.slabs i d) (kept.slabs i d below) (good i d below);
       asked = sizes.asked ∙ (whole.asked ∙ ap₂ (λ m n. m * n) (sym sizes.slabs) (sym sizes.chunks));
       limit = omega (arith, whole.limit, sizes.limit);
-      dead = enter_dead s t entry e whole.dead;
+      dead = dead;
     }
+
+-- every entry keeps a cache whole
+pub enter_whole : (s t : CacheState) (entry : CacheEntry) → IsWhole s → enter s entry ≡ Some t → IsWhole t
+enter_whole s t entry whole e =
+    whole_from s t (enter_sizes s t entry e) (enter_kept s t entry e (whole_kept s whole))
+    (enter_marks s t entry e (whole_kept s whole) (whole_marks s whole)) (enter_dead s t entry e whole.dead) whole
+
+answered_dead : (said : Said) (slab : SlabState) (k : ℕ) → is_dead slab ≡ false → is_dead (slab_answered said slab k) ≡ false
+answered_dead Yes slab k none = none
+answered_dead No slab k none = none
+answered_dead Later slab k none = none
+answered_dead DontNeed slab k none = none
+answered_dead DontKnow slab k none = none
+
+-- what an answer leaves, before its move ends
+pub answer_whole : (s : CacheState) (b : ℕ) (said : Said) → IsWhole s → IsWhole (with_answer s b said)
+answer_whole s b said whole =
+    whole_from s (with_answer s b said) (with_answer_sizes s b said) (with_answer_kept s b said (whole_kept s whole))
+    (with_answer_marks s b said (whole_kept s whole) (whole_marks s whole)) (by_out (is_out s b)) whole
   where
-    kept : IsKeptState t
-    kept = enter_kept s t entry e (whole_kept s whole)
+    by_out : (x : Bool) → IsDeadInMoves (cond x (on_slab_of s b (slab_answered said)) s)
+    by_out true = λ calm. on_slab_dead s b (slab_answered said) (answered_dead said) (whole.dead calm)
+    by_out false = whole.dead
 
-    good : All HasGoodMarks t.slabs
-    good = enter_marks s t entry e (whole_kept s whole) (whole_marks s whole)
-
-    sizes : AreSameSizes s t
-    sizes = enter_sizes s t entry e
+-- the end of a move
+pub without_move_whole : (s : CacheState) (j : ℕ) → IsWhole s → IsWhole (without_move s j)
+without_move_whole s j whole =
+    whole_from s (without_move s j) (without_move_sizes s j) (without_move_kept s j (whole_kept s whole)) (without_move_marks s j (whole_marks s whole))
+    (without_move_dead s j) whole
 
 any-replicate_none : (n : ℕ) → list_any {X = Option PendingMove} is_some (replicate n None) ≡ false
 any-replicate_none zero = refl

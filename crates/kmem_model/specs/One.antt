@@ -61,7 +61,11 @@ placed_step s (Put name value) next =
     if is_some (id_of s.map name.0) then record { reply = next.reply; state = record s { map = next.map } }
     else
     record { reply = next.reply; state = record { map = next.map; cache = cache_with s; addresses = s.addresses ++ address_for s ∷ [] } }
-placed_step s (Del name) next = record { reply = next.reply; state = record { map = next.map; cache = cache_without s next.map (id_of s.map name.0); addresses = s.addresses } }
+placed_step s (Del name) next =
+    record {
+      reply = next.reply;
+      state = record { map = next.map; cache = cache_without s next.map (id_of s.map name.0); addresses = s.addresses };
+    }
 placed_step s _ next = record { reply = next.reply; state = record s { map = next.map } }
 
 -- there is no room for a further record: every buffer is out, and none of them has a leftover
@@ -86,4 +90,9 @@ one_limit = 64
 
 -- before the first command, over so many slabs of so many buffers, with so many names
 abbrev pub one_start : ℕ → ℕ → ℕ → OneState
-one_start slabs chunks names = record { map = no_records names one_workers; cache = opening (sizes_of slabs chunks one_limit); addresses = [] }
+one_start slabs chunks names =
+    record {
+      map = no_records names one_workers;
+      cache = opening (sizes_of slabs chunks one_limit);
+      addresses = [];
+    }

@@ -90,7 +90,11 @@ abbrev pub history_of : Option ℕ → ℕ → OneRun → List Line → List Lin
 history_of every number run before [] = []
 history_of every number run before (line ∷ lines) = (
   line.worker - 1,
-  record { number = length (commands_of line.worker before) + 1; command = line.command; reply = (one_step run.state line.worker line.command).reply },
+  record {
+    number = length (commands_of line.worker before) + 1;
+    command = line.command;
+    reply = (one_step run.state line.worker line.command).reply;
+  },
 )
     ∷ history_of every (number + 1) (line_run every number run line) (before ++ line ∷ []) lines
 

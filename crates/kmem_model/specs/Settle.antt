@@ -48,7 +48,8 @@ next_move stage =
     (first_partial_free stage.cache.chunks stage.cache.slabs))
     (chosen stage.cache)
 
--- what an answer makes of a list by buffers, in which `none` stands where there is no object: YES takes what stands at the old buffer to the
+-- what an answer makes of a list by buffers, in which `none` stands where there is no object: YES takes what stands at the old buffer to
+-- the
 -- new one, and after DONT_NEED it is gone
 abbrev pub places_after : {X : Type 0} → X → Said → ℕ → ℕ → List X → List X
 places_after none Yes from to xs = slice_set (slice_set xs to (slice_index_or xs from none)) from none

@@ -26,14 +26,19 @@ abbrev pub scans_made : ℕ → Stage → Option (List CacheEntry)
 scans_made zero stage = None
 scans_made (suc n) stage =
     option_and_then
-    (λ scan. elim (is_done scan) [ true ↦ Some (scan_made scan) | false ↦ option_map (λ es. scan_made scan ++ es) (scans_made n scan.stage) ])
+    (λ scan. elim (is_done scan) [
+      | true ↦ Some (scan_made scan)
+      | false ↦ option_map (λ es. scan_made scan
+          ++ es) (scans_made n scan.stage)
+    ])
     (scanned stage)
 
 -- settle: every count and mark is forgotten, and then come the scans
 abbrev pub settle_entries : Stage → Option (List CacheEntry)
 settle_entries stage = option_and_then (λ course. option_map (λ es. Forget ∷ es) (scans_made (enough stage) course.stage)) (forgotten stage)
 
--- these are the entries of the settle that takes this course: they lead to where it ends, each scan goes on until there is no move to begin,
+-- these are the entries of the settle that takes this course: they lead to where it ends, each scan goes on until there is no move to
+-- begin,
 -- and they end just its moves
 pub record AreEntriesOf (stage : Stage) (course : Course) (entries : List CacheEntry) : Type 0 where
   pub made : settle_entries stage ≡ Some entries

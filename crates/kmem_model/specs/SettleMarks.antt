@@ -12,4 +12,5 @@ is_marked_partial slab = is_partial slab && is_marked slab
 
 -- at most one partial slab has no mark, and if one has none it is the only partial one
 abbrev pub is_at_most_one_plain : List SlabState → Bool
-is_at_most_one_plain slabs = count_by is_plain_partial slabs == 0 || (count_by is_plain_partial slabs == 1 && count_by is_marked_partial slabs == 0)
+is_at_most_one_plain slabs = count_by is_plain_partial slabs == 0
+    || (count_by is_plain_partial slabs == 1 && count_by is_marked_partial slabs == 0)

@@ -21,7 +21,8 @@ pub fn law_stage()
     ensures whole { (cache : CacheState) (h : HeapState) → IsWhole cache → has_pending cache ≡ false → AreInBuffers cache h.objects →
         IsWholeStage (stage_in cache h.objects) }
     ensures within { (cache : CacheState) (h : HeapState) → IsWholeStage (stage_in cache h.objects) → AreInBuffers cache h.objects }
-    ensures known { (cache : CacheState) (h : HeapState) (b : ℕ) → is_known (said_at (stage_in cache h.objects) b) ≡ true → b < length h.objects }
+    ensures known { (cache : CacheState) (h : HeapState) (b : ℕ) → is_known (said_at (stage_in cache h.objects) b) ≡ true →
+        b < length h.objects }
     ensures said { (cache : CacheState) (h : HeapState) (b : ℕ) → said_at (stage_in cache h.objects) b ≡ says h true b }
     ensures moved { (h : HeapState) (from to : ℕ) (said : Said) →
         map answer_about (heap_after h from to said).objects ≡ says_after said from to (map answer_about h.objects) }

@@ -25,7 +25,8 @@ pub fn law_history()
 pub fn law_taken()
     ensures in_use { (names workers pass tag : ℕ) (h : List (ℕ × RecordEntry)) → tag < 8 → pass < workers →
         IsLegalHistory (no_records names workers) h → All (IsEntryWithin names workers) h →
-        is_some (held_at (map_after (no_records names workers) h) (tag_place (worker_of pass) tag)) ≡ in_use tag false (own_entries pass h) }
+        is_some (held_at (map_after (no_records names workers) h) (tag_place (worker_of pass) tag)) ≡
+        in_use tag false (own_entries pass h) }
     ensures taken { (tag : ℕ) (entries : List RecordEntry) → in_use tag false entries ≡ true → IsTaken tag entries }
     // a tag is in use only after some `hold`, and a record is fixed only after some `fix`, with `ok`
     ensures held { (names workers place : ℕ) (h : List (ℕ × RecordEntry)) → IsLegalHistory (no_records names workers) h →
@@ -46,14 +47,17 @@ pub fn law_counts()
     ensures pending_along { (s t : CacheState) (entries : List CacheEntry) → Follows s entries t →
         pending_count t + total moves_ended entries ≡ pending_count s + total moves_begun entries }
     // a sum over a history is the sum over its passes' own entries, and that over two lists of entries is the sum of both
-    ensures passes { (passes : ℕ) (weight : CacheEntry → ℕ) (history : List (ℕ × CacheEntry)) → All (λ (e : ℕ × CacheEntry). e.0 < passes) history →
+    ensures passes { (passes : ℕ) (weight : CacheEntry → ℕ) (history : List (ℕ × CacheEntry)) →
+        All (λ (e : ℕ × CacheEntry). e.0 < passes) history →
         total_before passes weight history ≡ total weight (entries_in history) }
-    ensures lists { (weight : CacheEntry → ℕ) (front rest : List CacheEntry) → total weight (front ++ rest) ≡ total weight front + total weight rest }
+    ensures lists { (weight : CacheEntry → ℕ) (front rest : List CacheEntry) →
+        total weight (front ++ rest) ≡ total weight front + total weight rest }
 {}
 
 /// Entries that lead from one state to another, and further ones, lead on; the entries of a history lead where the history does.
 pub fn law_follows()
-    ensures chain { (front rest : List CacheEntry) (s t u : CacheState) → Follows s front t → Follows t rest u → Follows s (front ++ rest) u }
+    ensures chain { (front rest : List CacheEntry) (s t u : CacheState) → Follows s front t → Follows t rest u →
+        Follows s (front ++ rest) u }
     ensures history { (history : List (ℕ × CacheEntry)) (s : CacheState) → state_after s history ≡ entered_all s (entries_in history) }
     ensures whole { (s t : CacheState) (entries : List CacheEntry) → IsWhole s → Follows s entries t → IsWhole t }
 {}

@@ -91,8 +91,10 @@ pub fn law_room()
 /// What a heap and a cache do at a command is the step of `one`: with these changes the heap stands for what `one` keeps after it.
 pub fn law_one_step()
     ensures start { (slabs chunks names : ℕ) (h : HeapState) → 0 < chunks →
-        h.objects ≡ replicate (slabs * chunks) None → StandsFor (no_records names one_workers) [] h → OneStands (one_start slabs chunks names) h }
-    ensures within { (s : OneState) (worker : ℕ) (command : Command) → IsReplyWithinNames (length s.map.names) (one_step s worker command).reply }
+        h.objects ≡ replicate (slabs * chunks) None → StandsFor (no_records names one_workers) [] h →
+        OneStands (one_start slabs chunks names) h }
+    ensures within { (s : OneState) (worker : ℕ) (command : Command) →
+        IsReplyWithinNames (length s.map.names) (one_step s worker command).reply }
     ensures maps { (s : OneState) (worker : ℕ) (command : Command) → leaves_objects command ≡ true →
         (one_step s worker command).state.map ≡ (step s.map worker command).map }
     ensures tags { (s : OneState) (worker : ℕ) (command : Command) → leaves_tags command ≡ true →
@@ -119,7 +121,8 @@ pub fn law_one_step()
     ensures made { (s : OneState) (h new : HeapState) (t : CacheState) (worker : ℕ) (name : NameId) (value : List ℕ) (b : ℕ) →
         OneStands s h → address_of h name.0 ≡ None →
         is_full s.cache ≡ false → enter s.cache (Alloc b) ≡ Some t → b < buffers_of s.cache → object_at h b ≡ None →
-        StandsFor (step s.map worker (Put name value)).map (s.addresses ++ b ∷ []) new → places_of new.objects ≡ slice_set (places_of h.objects) b true →
+        StandsFor (step s.map worker (Put name value)).map (s.addresses ++ b ∷ []) new →
+        places_of new.objects ≡ slice_set (places_of h.objects) b true →
         OneEnds (one_step s worker (Put name value)) New t new }
     ensures reused { (s : OneState) (h new : HeapState) (worker : ℕ) (name : NameId) (value : List ℕ) (b : ℕ) →
         OneStands s h → address_of h name.0 ≡ None →
@@ -137,7 +140,8 @@ pub fn law_one_step()
         OneEnds (one_step s worker (Del name)) (step s.map worker (Del name)).reply s.cache new }
     ensures ended { (s : OneState) (h new : HeapState) (t : CacheState) (worker : ℕ) (name : NameId) (b : ℕ) →
         OneStands s h → address_of h name.0 ≡ Some b →
-        ((id : ℕ) → id_of s.map name.0 ≡ Some id → (is_live (step s.map worker (Del name)).map id ≡ false) × (address_in s.addresses id ≡ b)) →
+        ((id : ℕ) → id_of s.map name.0 ≡ Some id → (is_live (step s.map worker (Del name)).map id ≡ false) ×
+        (address_in s.addresses id ≡ b)) →
         enter s.cache (Free b) ≡ Some t →
         StandsFor (step s.map worker (Del name)).map s.addresses new → places_of new.objects ≡ slice_set (places_of h.objects) b false →
         OneEnds (one_step s worker (Del name)) (step s.map worker (Del name)).reply t new }

@@ -8,7 +8,7 @@ ghost use Rattle.kmem_model.specs.declared.cache_entry.CacheEntry.{CacheEntry};
 ghost use Rattle.kmem_model.specs.declared.cache_entry.CacheEntry.TheVariants.{Scan, Begin, End, Forget};
 ghost use Rattle.kmem_model.specs.CacheState.{CacheSizes, SlabState, CacheState, is_out, opening};
 ghost use Rattle.kmem_model.specs.CacheOrder.{is_idle};
-ghost use Rattle.kmem_model.specs.CacheEnter.{enter};
+ghost use Rattle.kmem_model.specs.CacheEnter.{enter, with_answer, without_move};
 ghost use Rattle.kmem_model.specs.CacheHistory.{MayEnter, Reaches};
 ghost use Rattle.kmem_model.specs.SettleEntries.{moves_entries, AreEntriesOf};
 ghost use Rattle.kmem_model.specs.Report.{is_end_by, is_gone_entry};
@@ -20,11 +20,13 @@ ghost use Rattle.kmem_model.specs.SettleMeasure.{IsInSettle, scanned_all, settle
 ghost use Rattle.kmem_model.specs.SettleTurns.{with_cache, course_at, course_moved, IsMoveOn, IsScanOn};
 
 /// A cache is whole at its opening, as a stage beside a client that knows no object. Every entry keeps it whole,
-/// also while moves are pending; so every state that a legal history reaches is whole.
+/// also while moves are pending, and so do the parts of an end; so every state that a legal history reaches is whole.
 pub fn law_whole()
     ensures opening { (sizes : CacheSizes) → 0 < sizes.chunks → 0 < sizes.limit →
         IsWholeStage (record { cache = opening sizes; says = replicate (sizes.slabs * sizes.chunks) DontKnow }) }
     ensures kept { (s t : CacheState) (entry : CacheEntry) → IsWhole s → enter s entry ≡ Some t → IsWhole t }
+    ensures answered { (s : CacheState) (b : ℕ) (said : Said) → IsWhole s → IsWhole (with_answer s b said) }
+    ensures unpended { (s : CacheState) (j : ℕ) → IsWhole s → IsWhole (without_move s j) }
     ensures reached { (sizes : CacheSizes) (history : List (ℕ × CacheEntry)) (s : CacheState) → 0 < sizes.chunks → 0 < sizes.limit →
         Reaches sizes history s → IsWhole s }
 {}

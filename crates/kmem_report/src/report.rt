@@ -12,11 +12,10 @@ use kmem_buf::Kind;
 use kmem_io::{Failed, Sink, write_all};
 use object_cache::{ObjectCache, Tally};
 
-/// Writes the report: a line that opens it, the counts, how the moves ended and how those of all settles did, and each listed slab. Stops at
+/// Writes the report: a line that opens it, the counts, how the moves ended and how those of all settles did, and each listed slab. Stops
+/// at
 /// the first fault. Linear in the slabs, and takes no memory.
 pub fn write_report<K: Kind, W: Sink>(
-    slabs: u32,
-    chunks: u32,
     live: u32,
     scans: u32,
     moves: &Tally,
@@ -24,9 +23,6 @@ pub fn write_report<K: Kind, W: Sink>(
     cache: &ObjectCache<K>,
     out: &mut W,
 ) -> Result<(), Failed>
-    requires slabs { slabs ≡ length cache.now.state.slabs }
-    requires chunks { chunks ≡ cache.now.state.chunks }
-    requires buffers { slabs * chunks ≤ 65536 }
     requires out { CanRise (W.faults out.old) }
     ensures whole { OnOk result (Appends (W.written out.old) (W.written out.new)
         (report_text (reported live scans moves.now settled.now cache.now.state))) }
@@ -35,13 +31,11 @@ pub fn write_report<K: Kind, W: Sink>(
     ensures counted { CountsFaults (W.faults out.old) (W.faults out.new) result }
 {
     write_all(out, b"=== report\n")?;
-    write_part(slabs, chunks, live, scans, moves, settled, cache, out)
+    write_part(live, scans, moves, settled, cache, out)
 }
 
 /// Writes what follows the line that opens the report: the counts, and each listed slab.
 pub fn write_part<K: Kind, W: Sink>(
-    slabs: u32,
-    chunks: u32,
     live: u32,
     scans: u32,
     moves: &Tally,
@@ -49,9 +43,6 @@ pub fn write_part<K: Kind, W: Sink>(
     cache: &ObjectCache<K>,
     out: &mut W,
 ) -> Result<(), Failed>
-    requires slabs { slabs ≡ length cache.now.state.slabs }
-    requires chunks { chunks ≡ cache.now.state.chunks }
-    requires buffers { slabs * chunks ≤ 65536 }
     requires out { CanRise (W.faults out.old) }
     ensures whole { OnOk result (Appends (W.written out.old) (W.written out.new)
         (part_text (reported live scans moves.now settled.now cache.now.state))) }
@@ -60,34 +51,26 @@ pub fn write_part<K: Kind, W: Sink>(
     ensures counted { CountsFaults (W.faults out.old) (W.faults out.new) result }
 {
     let mut room = [0u8; 640];
-    let at = put_numbers(
-        &mut room,
-        slabs * chunks,
-        live,
-        scans,
-        moves,
-        settled,
-        cache,
-    );
+    let at = put_numbers(&mut room, live, scans, moves, settled, cache);
     write_all(out, &room[..at])?;
-    write_slabs(slabs, cache, out)
+    write_slabs(cache, out)
 }
 
 /// Puts the lines of the numbers at the front, and answers where they end.
 fn put_numbers<K: Kind>(
     room: &mut [u8],
-    buffers: u32,
     live: u32,
     scans: u32,
     moves: &Tally,
     settled: &Tally,
     cache: &ObjectCache<K>,
 ) -> usize
-    requires room { 640 ≤ length room.old }
-    requires buffers { buffers ≡ length cache.now.state.slabs * cache.now.state.chunks }
+    requires { 640 ≤ length room.old }
     ensures end { result ≤ 640 }
     ensures text { take result room.new ≡ numbers_text (reported live scans moves.now settled.now cache.now.state) }
 {
+    cache.law_whole();
+    let buffers = cache.slabs() * cache.chunks();
     let at = put_number_line(room, 0, b"buffers", u64::from(buffers));
     let at = put_number_line(room, at, b"live", u64::from(live));
     let at = put_number_line(room, at, b"slabs", u64::from(cache.slab_count()));
@@ -99,18 +82,13 @@ fn put_numbers<K: Kind>(
 }
 
 /// Writes a line for each listed slab.
-fn write_slabs<K: Kind, W: Sink>(
-    slabs: u32,
-    cache: &ObjectCache<K>,
-    out: &mut W,
-) -> Result<(), Failed>
-    requires slabs { slabs ≡ length cache.now.state.slabs }
-    requires out { CanRise (W.faults out.old) }
+fn write_slabs<K: Kind, W: Sink>(cache: &ObjectCache<K>, out: &mut W) -> Result<(), Failed>
+    requires { CanRise (W.faults out.old) }
     ensures whole { OnOk result (Appends (W.written out.old) (W.written out.new) (slab_texts 0 cache.now.state.slabs)) }
     ensures front { AppendsFront (W.written out.old) (W.written out.new) (slab_texts 0 cache.now.state.slabs) }
     ensures counted { CountsFaults (W.faults out.old) (W.faults out.new) result }
 {
-    for slab in 0..slabs {
+    for slab in 0..cache.slabs() {
         write_slab(slab, cache, out)?;
     }
     Ok(())
@@ -124,8 +102,10 @@ fn write_slab<K: Kind, W: Sink>(
 ) -> Result<(), Failed>
     requires slab { slab < length cache.now.state.slabs }
     requires out { CanRise (W.faults out.old) }
-    ensures whole { OnOk result (Appends (W.written out.old) (W.written out.new) (slab_text slab (slab_at cache.now.state.slabs slab))) }
-    ensures front { AppendsFront (W.written out.old) (W.written out.new) (slab_text slab (slab_at cache.now.state.slabs slab)) }
+    ensures whole { OnOk result (Appends (W.written out.old) (W.written out.new)
+        (slab_text slab (slab_at cache.now.state.slabs slab))) }
+    ensures front { AppendsFront (W.written out.old) (W.written out.new)
+        (slab_text slab (slab_at cache.now.state.slabs slab)) }
     ensures counted { CountsFaults (W.faults out.old) (W.faults out.new) result }
 {
     let Some(line) = cache.line(slab) else {

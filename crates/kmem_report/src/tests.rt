@@ -110,7 +110,7 @@ impl Bench {
             dont_know: 50,
             gone: 60,
         };
-        write_report(2, 4, 3, 7, &moves, &settled, &self.cache, out)
+        write_report(3, 7, &moves, &settled, &self.cache, out)
     }
 }
 

@@ -53,7 +53,8 @@ pub record IsLaid (line : Laid) : Type 0 where
 
 -- the bytes of the line
 abbrev pub laid_text : Laid → List ℕ
-laid_text line = line.lead ++ (line.first ++ (flat_map (λ part. part.blanks ++ part.token) line.further ++ (line.end ++ (if line.returns then CARRIAGE_RETURN ∷ [] else []))))
+laid_text line = line.lead ++ (line.first ++ (flat_map (λ part. part.blanks ++ part.token) line.further
+    ++ (line.end ++ (if line.returns then CARRIAGE_RETURN ∷ [] else []))))
 
 -- its tokens
 abbrev pub laid_tokens : Laid → List (List ℕ)

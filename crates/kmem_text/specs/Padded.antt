@@ -10,7 +10,8 @@ pub record IsPadded (test : List ℕ → Bool) (size : ℕ) (bytes : List ℕ) (
   pub zeros : bytes ≡ take len bytes ++ replicate (size - len) 0
 
 -- so the text alone gives the row and its length back
-pub unpadded : (test : List ℕ → Bool) (size : ℕ) (bytes : List ℕ) (len : ℕ) → IsPadded test size bytes len → ((take len bytes ++ replicate (size - length (take len bytes)) 0) ≡ bytes) × (length (take len bytes) ≡ len)
+pub unpadded : (test : List ℕ → Bool) (size : ℕ) (bytes : List ℕ) (len : ℕ) → IsPadded test size bytes len →
+    ((take len bytes ++ replicate (size - length (take len bytes)) 0) ≡ bytes) × (length (take len bytes) ≡ len)
 unpadded test size bytes len h =
     let same : length (take len bytes) ≡ len = length-take-le len bytes (omega (arith, h.whole, h.fits)) in
     (ap (λ n. take len bytes ++ replicate (size - n) 0) same ∙ sym h.zeros, same)

@@ -49,7 +49,8 @@ abbrev pub one : {A : Type 0} → (List ℕ → Result A LineFault) → (A → S
 one read make tokens = only read tokens >>= λ x. Ok (make x)
 
 -- the command that is made of two tokens more
-abbrev pub two : {A B : Type 0} → (List ℕ → Result A LineFault) → (List ℕ → Result B LineFault) → (A → B → Spelled) → List (List ℕ) → Result Spelled LineFault
+abbrev pub two : {A B : Type 0} → (List ℕ → Result A LineFault) → (List ℕ → Result B LineFault) → (A → B → Spelled) → List (List ℕ) →
+    Result Spelled LineFault
 two read_first read_second make (first ∷ second ∷ []) = do
   x ← read_first first
   y ← read_second second

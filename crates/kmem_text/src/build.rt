@@ -19,7 +19,8 @@ impl Script {
     pub fn from_lines(alloc: Global, lines: &[SpelledLine]) -> Result<Script, AllocError>
         requires { length lines.now ≤ 100000 }
         ensures script { IfOk result (λ script. script_of_lines lines.now ≡ plain script) }
-        ensures whole { IfOk result (λ script. (most : ℕ) → All (λ line. IsWorker most line.worker) lines.now → IsScript most (plain script)) }
+        ensures whole { IfOk result (λ script. (most : ℕ) → All (λ line. IsWorker most line.worker) lines.now →
+            IsScript most (plain script)) }
     {
         let names = names_of(alloc, lines)?;
         let lines = placed_lines(alloc, lines, &names)?;

@@ -1,7 +1,7 @@
 -- What is answered for a script that was read.
 use Rattle.std.proofs.Common.{◌≡◌, ◌≤◌, ℕ, Bool, List, ◌++◌, length, Option, Some, None, Result, Ok, Err, refl, sym, ap, ◌∙◌, subst}
 use Rattle.std.specs.Option.{IfSome}
-use Rattle.std.specs.Result.{IsOkAnd}
+use Rattle.std.specs.Result.{IsOkAnd, IsErrOf}
 use Rattle.std.specs.Prelude.{if◌then◌else◌}
 use Rattle.std.specs.Io.KnownBytes.{Consumes, IsAtEnd}
 use Rattle.std.proofs.lemmas.Bool.{le-ltb}
@@ -18,6 +18,10 @@ if_some (Some x) P all = all x refl
 
 pub ok_and : {X E : Type 0} (r : Result X E) (P : X → Type 0) (x : X) → r ≡ Ok x → P x → IsOkAnd r P
 ok_and {X = X} {E = E} r P x is holds = subst (λ (q : Result X E). IsOkAnd q P) (sym is) holds
+
+-- a value is no fault
+pub not_due : {X E : Type 0} (r : Result X E) (x : X) (e : E) (P : Type 0) → r ≡ Ok x → IsErrOf r e → P
+not_due r x e P is fails = absurd (cc)
 
 -- all that was left was read
 pub all_read : (left after : Option (List ℕ)) (taken bytes : List ℕ) → Consumes left after taken → IsAtEnd after → left ≡ Some bytes → bytes ≡ taken

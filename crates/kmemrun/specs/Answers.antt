@@ -17,13 +17,20 @@ use Rattle.kmemrun.specs.declared.status.Ending.TheVariants as ending
 -- the output for a script; or its first bad line, or that it has too many commands
 abbrev pub script_answer : ℕ → ℕ → Option ℕ → Option (ℕ × LineFault) → Plain → Result (List ℕ) Fault
 script_answer slabs chunks every (Some bad) script = Err (fault.BadScript bad.0 bad.1)
-script_answer slabs chunks every None script = if nat_lt 100000 (length script.lines) then Err fault.Limit else Ok (one_output slabs chunks every script)
+script_answer slabs chunks every None script =
+    if nat_lt 100000 (length script.lines)
+    then Err fault.Limit
+    else Ok (one_output slabs chunks every script)
 
 -- what `one` writes for an input of at most 16 MiB, or why it writes nothing
 abbrev pub one_answer : ℕ → ℕ → Option ℕ → List ℕ → Result (List ℕ) Fault
-one_answer slabs chunks every bytes = if nat_lt 16777216 (length bytes) then Err fault.Limit else script_answer slabs chunks every (first_bad_of 16 bytes) (script_of 16 bytes)
+one_answer slabs chunks every bytes =
+    if nat_lt 16777216 (length bytes)
+    then Err fault.Limit
+    else script_answer slabs chunks every (first_bad_of 16 bytes) (script_of 16 bytes)
 
--- The text is that of a history: its replies, each on a line, and what follows them. The history is legal for a plain map of records; it has
+-- The text is that of a history: its replies, each on a line, and what follows them. The history is legal for a plain map of records; it
+-- has
 -- each line's command once, and each worker's in their order; and `full` stands in it exactly where the name of a put is absent and as many
 -- records live as there are buffers
 pub record IsTextOfHistory (slabs chunks : ℕ) (script : Plain) (text : List ℕ) : Type 0 where

@@ -50,19 +50,21 @@ pub fn serve_one<R: Source, W: Sink>(
     // What is written for the bytes that were left, all of which are read: the text of `one`, which is that of a history.
     ensures text { OnOk result (IfSome (R.left input.old) (λ bytes.
         IsOkAnd (one_answer slabs chunks every bytes) (λ text.
-            Appends (W.written out.old) (W.written out.new) text × IsTextOfHistory slabs chunks (script_of 16 bytes) text))) }
+        Appends (W.written out.old) (W.written out.new) text × IsTextOfHistory slabs chunks (script_of 16 bytes) text))) }
     ensures end { OnOk result (IsAtEnd (R.left input.new)) }
 
     // When each fault comes.
     ensures read { IsErrOf result Fault.Read ↔ (R.faults input.old < R.faults input.new) }
-    ensures limit { IsErrOf result Fault.Limit → IfSome (R.left input.old) (λ bytes. IsErrOf (one_answer slabs chunks every bytes) Fault.Limit) }
+    ensures limit { IsErrOf result Fault.Limit →
+        IfSome (R.left input.old) (λ bytes. IsErrOf (one_answer slabs chunks every bytes) Fault.Limit) }
     ensures bad_script { IfErr result (λ fault. IfBadScript fault (λ line check. IfSome (R.left input.old) (λ bytes.
         IsErrOf (one_answer slabs chunks every bytes) (Fault.BadScript line check)))) }
     ensures first_bad { IfErr result (λ fault. IfBadScript fault (λ line check. IfSome (R.left input.old) (λ bytes.
         first_bad_of 16 bytes ≡ Some (line, check)))) }
     ensures counted { IfErr result (λ fault. IfBadScript fault (λ line check. 1 ≤ line)) }
     ensures write { IsErrOf result Fault.Write ↔ (W.faults out.old < W.faults out.new) }
-    ensures due { IfSome (R.left input.old) (λ bytes. (due : Fault) → IsErrOf (one_answer slabs chunks every bytes) due → IsDue result due) }
+    ensures due { IfSome (R.left input.old) (λ bytes. (due : Fault) → IsErrOf (one_answer slabs chunks every bytes) due →
+        IsDue result due) }
     ensures fine { IfSome (R.left input.old) (λ bytes. IsOk (one_answer slabs chunks every bytes) → IsFineButForStreams result) }
 
     // What a fault leaves.
@@ -138,10 +140,14 @@ fn answer_script<W: Sink>(
     requires stands { Stands ready.old.bench }
     requires page { 641 ≤ length ready.old.page.items }
     requires out { CanRise (W.faults out.old) }
-    ensures whole { OnOk result ((start : OneRun) → RunsAt start ready.old.bench → Appends (W.written out.old) (W.written out.new) (one_text every ready.old.script.names.items start ready.old.script.lines.items)) }
+    ensures whole { OnOk result ((start : OneRun) → RunsAt start ready.old.bench →
+        Appends (W.written out.old) (W.written out.new)
+        (one_text every ready.old.script.names.items start ready.old.script.lines.items)) }
     ensures full { OnOk result ((start : OneRun) → RunsAt start ready.old.bench →
         IsFullExactly (buffers_of start.state.cache) start.state.map (history_of every 1 start [] ready.old.script.lines.items)) }
-    ensures front { (start : OneRun) → RunsAt start ready.old.bench → AppendsFront (W.written out.old) (W.written out.new) (one_text every ready.old.script.names.items start ready.old.script.lines.items) }
+    ensures front { (start : OneRun) → RunsAt start ready.old.bench →
+        AppendsFront (W.written out.old) (W.written out.new)
+        (one_text every ready.old.script.names.items start ready.old.script.lines.items) }
     ensures counted { CountsFaults (W.faults out.old) (W.faults out.new) result }
 {
     answer_lines(&ready.script, &mut ready.bench, every, &mut ready.page, out)?;
@@ -166,10 +172,13 @@ fn answer_lines<W: Sink>(
     requires stands { Stands bench.old }
     requires page { 641 ≤ length page.old }
     requires out { CanRise (W.faults out.old) }
-    ensures whole { OnOk result ((start : OneRun) → RunsAt start bench.old → Appends (W.written out.old) (W.written out.new) (reply_lines script.now.names.items (replies every 1 start script.now.lines.items))) }
-    ensures front { (start : OneRun) → RunsAt start bench.old → AppendsFront (W.written out.old) (W.written out.new) (reply_lines script.now.names.items (replies every 1 start script.now.lines.items)) }
+    ensures whole { OnOk result ((start : OneRun) → RunsAt start bench.old → Appends (W.written out.old) (W.written out.new)
+        (reply_lines script.now.names.items (replies every 1 start script.now.lines.items))) }
+    ensures front { (start : OneRun) → RunsAt start bench.old → AppendsFront (W.written out.old) (W.written out.new)
+        (reply_lines script.now.names.items (replies every 1 start script.now.lines.items)) }
     ensures counted { CountsFaults (W.faults out.old) (W.faults out.new) result }
-    ensures runs { OnOk result ((start : OneRun) → RunsAt start bench.old → RunsAt (lines_run every 1 start script.now.lines.items) bench.new) }
+    ensures runs { OnOk result ((start : OneRun) → RunsAt start bench.old →
+        RunsAt (lines_run every 1 start script.now.lines.items) bench.new) }
     ensures full { OnOk result ((start : OneRun) → RunsAt start bench.old →
         IsFullExactly (buffers_of start.state.cache) start.state.map (history_of every 1 start [] script.now.lines.items)) }
     ensures stands { Stands bench.new }

@@ -1,4 +1,5 @@
--- The magazine layer of one worker (Bonwick and Adams 2001; magazines of 8 rounds, and that previous is always full or empty, are this project's own).
+-- The magazine layer of one worker (Bonwick and Adams 2001; magazines of 8 rounds, and that previous is always full or empty, are this
+-- project's own).
 use Rattle.std.specs.Prelude.{◌≡◌, ◌<◌, ◌≤◌, nat_lt, if◌then◌else◌, List, [], ◌∷◌, ◌++◌, length, Option, Some, None, Result, Ok, Err, refl}
 use Rattle.std.specs.Coded.{Coded, code_by, coded×, coded_list}
 
@@ -9,7 +10,10 @@ pub record Layer (A : Type 0) : Type 0 where
 
 -- a layer is stored as its two lists
 abbrev pub layer_code : {A : Type 0} → Coded A → Coded (Layer A)
-layer_code {A} c = code_by (List A × List A) (coded× (coded_list c) (coded_list c)) (λ l. (l.loaded, l.previous)) (λ p. record { loaded = p.0; previous = p.1 }) (λ _. refl)
+layer_code {A} c = code_by (List A × List A) (coded× (coded_list c) (coded_list c)) (λ l. (
+  l.loaded,
+  l.previous,
+)) (λ p. record { loaded = p.0; previous = p.1 }) (λ _. refl)
 
 -- a full magazine
 abbrev pub IsFull : {A : Type 0} → List A → Type 0

@@ -3,6 +3,7 @@ use Rattle.std.specs.Prelude.{◌≡◌, ◌≤◌, length}
 use Rattle.slab_list.specs.Slabs.{ListState}
 use Rattle.kmem_buf.specs.Homes.{Homes}
 use Rattle.kmem_model.specs.CacheState.{CacheState}
+use Rattle.kmem_model.specs.SettleWhole.{IsWhole}
 use Rattle.object_cache.specs.Moves.{MovesState}
 use Rattle.object_cache.specs.declared.scan.Scan.{Scan}
 
@@ -32,5 +33,7 @@ cache_of list moves scan =
 -- what always holds of these parts
 pub record AreJoined (list : ListState) (moves : MovesState) (scan : Scan) : Type 0 where
   pub size : length moves.asked ≡ length list.cells
+  pub few : length list.cells ≤ 65536
   pub least : 1 ≤ scan.numerator
   pub most : scan.numerator ≤ 8
+  pub whole : IsWhole (cache_of list moves scan).state

@@ -26,7 +26,9 @@ pub record PendingState : Type 0 where
 -- it is stored as its parts
 abbrev pub pending_code : Coded PendingState
 pending_code =
-    code_by (ℕ × (ℕ × (ℕ × (ℕ × TableId)))) (coded× coded_ℕ (coded× coded_ℕ (coded× coded_ℕ (coded× coded_ℕ table_id_coded)))) (λ p. (p.no, (p.from, (p.to, (p.slot, p.home))))) (λ t. record { no = t.0; from = t.1.0; to = t.1.1.0; slot = t.1.1.1.0; home = t.1.1.1.1 }) (λ _. refl)
+    code_by (ℕ × (ℕ × (ℕ × (ℕ × TableId)))) (coded× coded_ℕ (coded× coded_ℕ (coded× coded_ℕ (coded× coded_ℕ table_id_coded))))
+    (λ p. (p.no, (p.from, (p.to, (p.slot, p.home)))))
+    (λ t. record { no = t.0; from = t.1.0; to = t.1.1.0; slot = t.1.1.1.0; home = t.1.1.1.1 }) (λ _. refl)
 
 -- a move that has begun: what is pending, and the new buffer
 pub record JobState (X : Type 0) : Type 0 where
@@ -36,7 +38,10 @@ pub record JobState (X : Type 0) : Type 0 where
 -- it is stored as its two parts
 abbrev pub job_code : {X : Type 0} → Coded X → Coded (JobState X)
 job_code {X} c =
-    code_by (PendingState × BufState X) (coded× pending_code (buf_code c)) (λ j. (j.move, j.buf)) (λ p. record { move = p.0; buf = p.1 }) (λ _. refl)
+    code_by (PendingState × BufState X) (coded× pending_code (buf_code c)) (λ j. (
+      j.move,
+      j.buf,
+    )) (λ p. record { move = p.0; buf = p.1 }) (λ _. refl)
 
 -- the move is one of these stubs: its home is the one that stands at its place
 abbrev pub IsMoveOf : List TableId → PendingState → Type 0

@@ -5,6 +5,7 @@ ghost use Rattle.kmem_buf.specs.Homes.{IsBufferOf};
 ghost use Rattle.kmem_model.specs.CacheState.{slab_at, is_listed, used, sizes_of, opening, slab_count, free_count, out_count, pending_count, dead_count};
 ghost use Rattle.kmem_model.specs.CacheEnter.{enter};
 ghost use Rattle.kmem_model.specs.CacheHistory.{MayEnter};
+ghost use Rattle.kmem_model.specs.SettleWhole.{IsWhole};
 ghost use Rattle.kmem_model.specs.declared.cache_entry.CacheEntry.TheVariants.{Alloc, Full, Free};
 
 mod moving;
@@ -125,6 +126,14 @@ impl<K: Kind> ObjectCache<K> {
         self.stock.list().home(self.moves.stubs())
     }
 
+    /// Tells what holds of the cache at every moment, also while moves are pending. It does nothing.
+    pub fn law_whole(&self)
+        ensures whole { IsWhole self.now.state }
+        ensures few { length self.now.state.slabs * self.now.state.chunks ≤ 65536 }
+    {
+        let _stock = &self.stock;
+    }
+
     /// The buffer of the first partial slab that is free and least, else the first of the source's least slab, else of the least dead one.
     /// It costs a pass over the slabs where one is partial, and else at most three.
     pub fn alloc(&mut self) -> Result<Buf<K>, AllocRefused>
@@ -209,7 +218,8 @@ impl<K: Kind> ObjectCache<K> {
     pub fn line(&self, slab: u32) -> Option<SlabLine>
         requires { slab < length self.now.state.slabs }
         ensures none { IsNone result ↔ (is_listed (slab_at self.now.state.slabs slab) ≡ false) }
-        ensures line { IfSome result (λ line. (line.used ≡ used (slab_at self.now.state.slabs slab)) × (line.stuck ≡ (slab_at self.now.state.slabs slab).stuck)) }
+        ensures line { IfSome result (λ line.
+            (line.used ≡ used (slab_at self.now.state.slabs slab)) × (line.stuck ≡ (slab_at self.now.state.slabs slab).stuck)) }
     {
         let list = self.stock.list();
         if !list.is_listed(slab) {

@@ -55,7 +55,8 @@ pub fn free<K: Kind>(list: &SlabList<K>) -> u32
 
 /// Whether more than an eighth of the buffers of listed slabs is free on partial slabs.
 pub fn is_fragmented<K: Kind>(list: &SlabList<K>) -> bool
-    ensures { result ≡ nat_lt (list.now.chunks * count_by is_listed list.now.slabs) (8 * sum_by (λ slab. if is_partial slab then free_buffers slab else 0) list.now.slabs) }
+    ensures { result ≡ nat_lt (list.now.chunks * count_by is_listed list.now.slabs)
+        (8 * sum_by (λ slab. if is_partial slab then free_buffers slab else 0) list.now.slabs) }
 {
     u64::from(list.chunks()) * u64::from(listed(list)) < 8 * u64::from(free_on_partial(list))
 }

@@ -211,7 +211,10 @@ impl Moves {
         requires number { number < length self.old.pending }
         requires idle { slice_index_or self.old.pending number None ≡ None }
         requires buffers { (from < length self.old.asked) × (to < length self.old.asked) }
-        ensures moves { self.new ≡ record self.old { asked = slice_set (slice_set self.old.asked from true) to true; pending = slice_set self.old.pending number (Some (record { from = from; to = to })) } }
+        ensures moves { self.new ≡ record self.old {
+          asked = slice_set (slice_set self.old.asked from true) to true;
+          pending = slice_set self.old.pending number (Some (record { from = from; to = to }));
+        } }
         ensures pending { (result.no ≡ number) × (result.from ≡ from) × (result.to ≡ to) × (result.slot ≡ number) }
         ensures home { IsMoveOf self.old.stubs result }
     {

@@ -28,7 +28,11 @@ impl<K> Model for SlabList<K> {
 
     ghost Value = { ListState };
 
-    ghost view = { λ s. record { chunks = s.chunks; slabs = slabs_of s.chunks s.cells.items s.lines.items; cells = cell_homes s.cells.items } };
+    ghost view = { λ s. record {
+      chunks = s.chunks;
+      slabs = slabs_of s.chunks s.cells.items s.lines.items;
+      cells = cell_homes s.cells.items;
+    } };
 
     ghost invariant = { λ s. IsListKept s.chunks s.cells.items s.lines.items };
 }

@@ -32,11 +32,13 @@ impl<K: Kind> SlabList<K> {
         }
     }
 
-    /// The buffer that a scan would have moved next: the least that can be, of the last slab that has one. Those are left out whose entry in `skip` is true.
+    /// The buffer that a scan would have moved next: the least that can be, of the last slab that has one. Those are left out whose entry
+    /// in `skip` is true.
     /// A mild scan takes only slabs without a mark, with one buffer out or with less than `numer` eighths of them out.
     pub fn last_reclaimable(&self, numer: u32, desperate: bool, skip: &[bool]) -> Option<u32>
         requires { length skip.now ≡ length self.now.cells }
-        ensures choice { result ≡ last_reclaimable self.now.chunks numer (mode_of desperate) (λ b. slice_index_or skip.now b false) self.now.slabs }
+        ensures choice { result ≡ last_reclaimable self.now.chunks numer (mode_of desperate)
+            (λ b. slice_index_or skip.now b false) self.now.slabs }
         ensures out { IfSome result (λ b. (b < length self.now.cells) × (is_out_in self.now b ≡ true)) }
     {
         let rule = Rule {
@@ -135,7 +137,8 @@ impl<K: Kind> SlabList<K> {
     fn first_with(&self, found: Option<u32>, slab: u32) -> Option<u32>
         requires found { IfSome found (λ other. other < length self.now.slabs) }
         requires slab { slab < length self.now.slabs }
-        ensures { result ≡ (if goes_before (comes_before self.now.slabs) slab found && is_partial (slab_at self.now.slabs slab) then Some slab else found) }
+        ensures { result ≡ (if goes_before (comes_before self.now.slabs) slab found
+            && is_partial (slab_at self.now.slabs slab) then Some slab else found) }
     {
         if self.is_before(slab, found) && self.is_partial(slab) {
             Some(slab)
@@ -199,7 +202,10 @@ impl<K: Kind> SlabList<K> {
     fn last_to_ask(&self, rule: Rule, skip: &[bool]) -> Option<u32>
         requires first { rule.first ≡ first_partial self.now.slabs }
         requires skip { length skip.now ≡ length self.now.cells }
-        ensures last { result ≡ foremost (length self.now.slabs) (λ i. is_some (least_to_move self.now.chunks rule.numer (mode_of rule.desperate) (λ b. slice_index_or skip.now b false) self.now.slabs i)) (λ j i. comes_before self.now.slabs i j) }
+        ensures last { result ≡ foremost (length self.now.slabs)
+            (λ i. is_some (least_to_move self.now.chunks rule.numer (mode_of rule.desperate)
+            (λ b. slice_index_or skip.now b false) self.now.slabs i))
+            (λ j i. comes_before self.now.slabs i j) }
         ensures range { IfSome result (λ slab. slab < length self.now.slabs) }
     {
         law_order();
@@ -216,7 +222,9 @@ impl<K: Kind> SlabList<K> {
         requires skip { length skip.now ≡ length self.now.cells }
         requires found { IfSome found (λ other. other < length self.now.slabs) }
         requires slab { slab < length self.now.slabs }
-        ensures { result ≡ (if goes_before (λ j i. comes_before self.now.slabs i j) slab found && is_some (least_to_move self.now.chunks rule.numer (mode_of rule.desperate) (λ b. slice_index_or skip.now b false) self.now.slabs slab) then Some slab else found) }
+        ensures { result ≡ (if goes_before (λ j i. comes_before self.now.slabs i j) slab found
+            && is_some (least_to_move self.now.chunks rule.numer (mode_of rule.desperate)
+            (λ b. slice_index_or skip.now b false) self.now.slabs slab) then Some slab else found) }
     {
         if self.is_after(slab, found) && self.least_to_move(rule, skip, slab).is_some() {
             Some(slab)
@@ -242,7 +250,9 @@ impl<K: Kind> SlabList<K> {
         requires first { rule.first ≡ first_partial self.now.slabs }
         requires skip { length skip.now ≡ length self.now.cells }
         requires slab { slab < length self.now.slabs }
-        ensures least { result ≡ option_map (λ k. slab * self.now.chunks + k) (least_to_move self.now.chunks rule.numer (mode_of rule.desperate) (λ b. slice_index_or skip.now b false) self.now.slabs slab) }
+        ensures least { result ≡ option_map (λ k. slab * self.now.chunks + k)
+            (least_to_move self.now.chunks rule.numer (mode_of rule.desperate)
+            (λ b. slice_index_or skip.now b false) self.now.slabs slab) }
         ensures out { IfSome result (λ b. (b < length self.now.cells) × (is_out_in self.now b ≡ true)) }
     {
         law_order();
@@ -262,7 +272,8 @@ impl<K: Kind> SlabList<K> {
         requires skip { length skip.now ≡ length self.now.cells }
         requires slab { slab < length self.now.slabs }
         requires index { index < self.now.chunks }
-        ensures { result ≡ (is_out_on (slab_at self.now.slabs slab) index && not (slice_index_or skip.now (slab * self.now.chunks + index) false)) }
+        ensures { result ≡ (is_out_on (slab_at self.now.slabs slab) index
+            && not (slice_index_or skip.now (slab * self.now.chunks + index) false)) }
     {
         let number = self.number(slab, index);
         self.is_out_at(slab, index) && !skip[number as usize]
@@ -271,7 +282,8 @@ impl<K: Kind> SlabList<K> {
     fn may_ask(&self, rule: Rule, slab: u32) -> bool
         requires first { rule.first ≡ first_partial self.now.slabs }
         requires slab { slab < length self.now.slabs }
-        ensures { result ≡ (is_reclaimable self.now.chunks rule.numer (mode_of rule.desperate) (slab_at self.now.slabs slab) && not (is_the (first_partial self.now.slabs) slab)) }
+        ensures { result ≡ (is_reclaimable self.now.chunks rule.numer (mode_of rule.desperate) (slab_at self.now.slabs slab)
+            && not (is_the (first_partial self.now.slabs) slab)) }
     {
         self.is_reclaimable(rule.numer, rule.desperate, slab) && !is_this(rule.first, slab)
     }
@@ -288,7 +300,8 @@ impl<K: Kind> SlabList<K> {
 
     fn is_sparse(&self, numer: u32, slab: u32) -> bool
         requires { slab < length self.now.slabs }
-        ensures { result ≡ (used (slab_at self.now.slabs slab) == 1 || nat_lt (8 * used (slab_at self.now.slabs slab)) (self.now.chunks * numer)) }
+        ensures { result ≡ (used (slab_at self.now.slabs slab) == 1
+            || nat_lt (8 * used (slab_at self.now.slabs slab)) (self.now.chunks * numer)) }
     {
         let used = self.used(slab);
         used == 1 || 8 * u64::from(used) < u64::from(self.chunks()) * u64::from(numer)

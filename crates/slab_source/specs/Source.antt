@@ -12,7 +12,10 @@ pub record SourceState : Type 0 where
 -- a source is stored as the pair of its parts
 abbrev pub source_code : Coded SourceState
 source_code =
-    code_by (ℕ × set.FinSet nat_cmp) (coded× coded_ℕ (set.code coded_ℕ)) (λ s. (s.slabs, s.held)) (λ p. record { slabs = p.0; held = p.1 }) (λ _. refl)
+    code_by (ℕ × set.FinSet nat_cmp) (coded× coded_ℕ (set.code coded_ℕ)) (λ s. (
+      s.slabs,
+      s.held,
+    )) (λ p. record { slabs = p.0; held = p.1 }) (λ _. refl)
 
 -- the least number of the set
 abbrev pub IsLeast : set.FinSet nat_cmp → ℕ → Type 0

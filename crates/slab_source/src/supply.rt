@@ -26,7 +26,8 @@ impl Model for Supply {
 
     ghost view = { λ s. record { slabs = length s.held.items; held = places s.held.items } };
 
-    ghost invariant = { λ s. (length s.held.items < 2 ^ 32) × (s.first ≤ length s.held.items) × NoneBelow s.held.items s.first × (s.left ≡ count_of s.held.items) };
+    ghost invariant = { λ s. (length s.held.items < 2 ^ 32) × (s.first ≤ length s.held.items) × NoneBelow s.held.items s.first ×
+        (s.left ≡ count_of s.held.items) };
 }
 
 impl Supply {
@@ -46,7 +47,8 @@ impl Supply {
     pub fn take(&mut self) -> Option<u32>
         ensures none { IfNone result (self.old.held ≡ set.empty) }
         ensures least { IfSome result (λ n. IsLeast self.old.held n × (n < self.old.slabs)) }
-        ensures taken { MatchOption result (self.new ≡ self.old) (λ n. self.new ≡ record { slabs = self.old.slabs; held = set.remove self.old.held n }) }
+        ensures taken { MatchOption result (self.new ≡ self.old) (λ n. self.new ≡
+            record { slabs = self.old.slabs; held = set.remove self.old.held n }) }
     {
         let slab = next_held(&self.held, self.first)?;
         self.held[slab as usize] = false;
@@ -78,7 +80,8 @@ impl Supply {
 fn next_held(held: &[bool], first: u32) -> Option<u32>
     requires size { length held.now < 2 ^ 32 }
     requires below { NoneBelow held.now first }
-    ensures { MatchOption result (NoneBelow held.now (length held.now)) (λ n. (n < length held.now) × (bit_at held.now n ≡ true) × NoneBelow held.now n) }
+    ensures { MatchOption result (NoneBelow held.now (length held.now)) (λ n. (n < length held.now) × (bit_at held.now n ≡ true) ×
+        NoneBelow held.now n) }
 {
     let len = held.len() as u32;
     for slab in first..len {

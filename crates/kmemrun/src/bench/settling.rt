@@ -26,6 +26,7 @@ impl Bench {
         law_one_settle();
         law_tally();
         let tally = settle(&mut self.cache, &mut self.heap);
+        self.cache.law_whole();
         add(&mut self.settled, &tally);
     }
 
@@ -73,20 +74,14 @@ impl Bench {
     pub fn report<W: Sink>(&self, out: &mut W) -> Result<(), Failed>
         requires stands { Stands self.now }
         requires out { CanRise (W.faults out.old) }
-        ensures whole { OnOk result ((run : OneRun) → RunsAt run self.now → Appends (W.written out.old) (W.written out.new) (report_text (report_of run))) }
-        ensures front { (run : OneRun) → RunsAt run self.now → AppendsFront (W.written out.old) (W.written out.new) (report_text (report_of run)) }
+        ensures whole { OnOk result ((run : OneRun) → RunsAt run self.now →
+            Appends (W.written out.old) (W.written out.new) (report_text (report_of run))) }
+        ensures front { (run : OneRun) → RunsAt run self.now →
+            AppendsFront (W.written out.old) (W.written out.new) (report_text (report_of run)) }
         ensures counted { CountsFaults (W.faults out.old) (W.faults out.new) result }
     {
         law_tally();
-        write_report(
-            self.cache.slabs(),
-            self.cache.chunks(),
-            self.heap.live(),
-            0,
-            &no_moves(),
-            &self.settled,
-            &self.cache,
-            out,
-        )
+        let live = self.heap.live();
+        write_report(live, 0, &no_moves(), &self.settled, &self.cache, out)
     }
 }

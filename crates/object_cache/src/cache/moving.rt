@@ -114,7 +114,8 @@ impl<K: Kind> ObjectCache<K> {
 
     // The buffer that the scan asks about next.
     fn choice(&self) -> Option<u32>
-        ensures some { IfSome result (λ b. (is_off self.now.state.mode ≡ false) × (chosen self.now.state ≡ Some b) × (b < length self.now.state.asked)) }
+        ensures some { IfSome result (λ b. (is_off self.now.state.mode ≡ false) × (chosen self.now.state ≡ Some b) ×
+            (b < length self.now.state.asked)) }
         ensures none { IsNone result → is_idle self.now.state ≡ true }
     {
         match self.scan.mode {

@@ -14,17 +14,11 @@ pub scans-init : goal.scans-init
 scans-init c =
     let state = c.args.cache.now.state in
     let heap = c.args.heap.now.heap in
-    let begun = c.law_scans.ensures.forgotten (stage_in state heap.objects) c.forget.new.self.state (c.law_stage.ensures.whole state heap c.requires.whole c.requires.calm c.requires.buffers) c.forget.ensures.entry in
+    let begun = c.law_scans.ensures.forgotten (stage_in state heap.objects) c.forget.new.self.state (c.law_stage.ensures.whole state heap c.law_whole.ensures.whole c.requires.calm c.requires.buffers) c.forget.ensures.entry in
     record {
       home = c.forget.ensures.home;
       on = record { moves = []; inside = begun.0; same = sym begun.1; counts = c.no_moves-tally.ensures; heap_moves = heap_still c.args.heap.now };
     }
-
-pub is_rest_marked-rest-requires : goal.is_rest_marked-rest-requires
-is_rest_marked-rest-requires c =
-    (c.law_scans.ensures.inside (stage_in c.scans.cache.state c.scans.heap.heap.objects)
-    (record { stage = stage_in c.scan-gained.new.cache.state c.scan-gained.new.heap.heap.objects; moves = c.scan-gained.ensures.scan.moves })
-    c.scans.invariant.on.inside c.scan-gained.ensures.scan.scan).whole.cache
 
 -- One more scan
 
@@ -78,7 +72,7 @@ settled_is c =
     ∙ ap₂ (λ a b. not a && b) c.if-not-gained.true c.if-rest.true)
 
 whole_stage : (c : goal.Then-rest) → IsWholeStage (stage_in c.args.cache.now.state c.args.heap.now.heap.objects)
-whole_stage c = c.law_stage.ensures.whole c.args.cache.now.state c.args.heap.now.heap c.requires.whole c.requires.calm c.requires.buffers
+whole_stage c = c.law_stage.ensures.whole c.args.cache.now.state c.args.heap.now.heap c.law_whole.ensures.whole c.requires.calm c.requires.buffers
 
 settles : (c : goal.Then-rest) → SettlesTo c.args.cache.now c.scan-gained.new.cache c.args.heap.now c.scan-gained.new.heap c.scan-gained.new.tally
 settles c =
@@ -106,8 +100,8 @@ returns-then-rest-clause-settles c = settles c
 pub returns-then-rest-clause-settled : goal.returns-then-rest-clause-settled
 returns-then-rest-clause-settled c = (left c).1
 
-pub returns-then-rest-clause-whole : goal.returns-then-rest-clause-whole
-returns-then-rest-clause-whole c = ((left c).0.cache, (left c).0.calm)
+pub returns-then-rest-clause-calm : goal.returns-then-rest-clause-calm
+returns-then-rest-clause-calm c = (left c).0.calm
 
 pub returns-then-rest-clause-buffers : goal.returns-then-rest-clause-buffers
 returns-then-rest-clause-buffers c = c.law_stage.ensures.within c.scan-gained.new.cache.state c.scan-gained.new.heap.heap (left c).0

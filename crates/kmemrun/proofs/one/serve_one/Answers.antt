@@ -10,7 +10,7 @@ use Rattle.kmem_model.specs.One.{one_workers}
 use Rattle.kmem_model.specs.OneRun.{OneRun, run_start, history_of, lines_run, reply_lines, report_after, one_output}
 use Rattle.kmemrun.specs.Answers.{IsTextOfHistory}
 use Rattle.kmemrun.proofs.Counted.{first_bad_counted}
-use Rattle.kmemrun.proofs.Serves.{if_some, ok_and, all_read, run_answer}
+use Rattle.kmemrun.proofs.Serves.{if_some, ok_and, not_due, all_read, run_answer}
 use Rattle.kmemrun.proofs.one.serve_one.Given.{Over}
 use Rattle.kmemrun.proofs.one.serve_one.Goals as goal
 
@@ -34,8 +34,7 @@ text_of g c =
 pub returns-in-Ok-answer_script-clause-text : goal.returns-in-Ok-answer_script-clause-text
 returns-in-Ok-answer_script-clause-text g c = if_some (g.R.Source.left c.args.input.now) _ (λ bytes is.
     let read = all_read (g.R.Source.left c.args.input.now) (g.R.Source.left c.read_all.new.input) c.deref.result.now bytes (subst (Consumes (g.R.Source.left c.args.input.now) (g.R.Source.left c.read_all.new.input)) (sym c.deref.ensures.value) c.in-Ok.ensures.bytes) c.in-Ok.ensures.end is in
-    ok_and _ _ _ (run_answer c.args.slabs c.args.chunks c.args.every bytes (plain c.in-Ok-open_one.ready.script) (subst (λ (xs : List ℕ). length xs ≤ 16777216) (sym (read ∙ c.deref.ensures.value)) c.in-Ok.ensures.within) (ap (first_bad_of 16) read ∙ c.in-Ok-open_one.ensures.good) (ap (script_of 16) read ∙ c.in-Ok-open_one.ensures.script) c.in-Ok-open_one.ensures.whole.few)
-    (
+    ok_and _ _ _ (run_answer c.args.slabs c.args.chunks c.args.every bytes (plain c.in-Ok-open_one.ready.script) (subst (λ (xs : List ℕ). length xs ≤ 16777216) (sym (read ∙ c.deref.ensures.value)) c.in-Ok.ensures.within) (ap (first_bad_of 16) read ∙ c.in-Ok-open_one.ensures.good) (ap (script_of 16) read ∙ c.in-Ok-open_one.ensures.script) c.in-Ok-open_one.ensures.whole.few) (
       c.in-Ok-answer_script.ensures.whole (run_start c.args.slabs c.args.chunks (length c.in-Ok-open_one.ready.script.names.items)) c.in-Ok-open_one.ensures.bench,
       subst (λ (script : Plain). IsTextOfHistory c.args.slabs c.args.chunks script (one_output c.args.slabs c.args.chunks c.args.every (plain c.in-Ok-open_one.ready.script)))
           (sym (ap (script_of 16) read ∙ c.in-Ok-open_one.ensures.script)) (text_of g c),
@@ -51,3 +50,13 @@ pub returns-in-Err-BadLine-clause-counted : goal.returns-in-Err-BadLine-clause-c
 returns-in-Err-BadLine-clause-counted g c =
     let said = rw c.in-Err-BadLine.field-0-is at c.in-Err-BadLine.ensures.error in
     rw c.in-Err-BadLine.line-is (first_bad_counted 16 c.deref.result.now c.in-Err-BadLine.line c.in-Err-BadLine.fault said)
+
+pub returns-in-Ok-answer_script-clause-due : goal.returns-in-Ok-answer_script-clause-due
+returns-in-Ok-answer_script-clause-due g c = if_some (g.R.Source.left c.args.input.now) _ (λ bytes is due fails.
+    let read = all_read (g.R.Source.left c.args.input.now) (g.R.Source.left c.read_all.new.input) c.deref.result.now bytes (subst (Consumes (g.R.Source.left c.args.input.now) (g.R.Source.left c.read_all.new.input)) (sym c.deref.ensures.value) c.in-Ok.ensures.bytes) c.in-Ok.ensures.end is in
+    not_due _ _ due _ (run_answer c.args.slabs c.args.chunks c.args.every bytes (plain c.in-Ok-open_one.ready.script) (subst (λ (xs : List ℕ). length xs ≤ 16777216) (sym (read ∙ c.deref.ensures.value)) c.in-Ok.ensures.within) (ap (first_bad_of 16) read ∙ c.in-Ok-open_one.ensures.good) (ap (script_of 16) read ∙ c.in-Ok-open_one.ensures.script) c.in-Ok-open_one.ensures.whole.few) fails)
+
+pub returns-clause-due : goal.returns-clause-due
+returns-clause-due g c = if_some (g.R.Source.left c.args.input.now) _ (λ bytes is due fails.
+    let read = all_read (g.R.Source.left c.args.input.now) (g.R.Source.left c.read_all.new.input) c.deref.result.now bytes (subst (Consumes (g.R.Source.left c.args.input.now) (g.R.Source.left c.read_all.new.input)) (sym c.deref.ensures.value) c.in-Ok.ensures.bytes) c.in-Ok.ensures.end is in
+    not_due _ _ due _ (run_answer c.args.slabs c.args.chunks c.args.every bytes (plain c.in-Ok-open_one.ready.script) (subst (λ (xs : List ℕ). length xs ≤ 16777216) (sym (read ∙ c.deref.ensures.value)) c.in-Ok.ensures.within) (ap (first_bad_of 16) read ∙ c.in-Ok-open_one.ensures.good) (ap (script_of 16) read ∙ c.in-Ok-open_one.ensures.script) c.in-Ok-open_one.ensures.whole.few) fails)

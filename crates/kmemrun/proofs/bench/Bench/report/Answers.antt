@@ -13,11 +13,11 @@ use Rattle.kmemrun.proofs.Reports.{counts_are, report_is}
 use Rattle.kmemrun.proofs.bench.Bench.report.Given.{Over}
 use Rattle.kmemrun.proofs.bench.Bench.report.Goals as goal
 
-same : (g : Over) (c : goal.After-write_report g) (run : OneRun) → RunsAt run c.args.self.now → reported c.live.result 0 c.no_moves.result c.self.inside.settled c.self.inside.cache.state ≡ report_of run
+same : (g : Over) (c : goal.After-write_report g) (run : OneRun) → RunsAt run c.args.self.now → reported c.live-live.result 0 c.no_moves.result c.self.inside.settled c.self.inside.cache.state ≡ report_of run
 same g c run given =
     let at = subst (RunsAt run) (sym c.self.view_is) given in
-    report_is run c.live.result c.no_moves.result c.self.inside.settled c.self.inside.cache.state
-    (c.live.ensures.live run.state.map run.state.addresses at.stands.stands.stands) c.no_moves.ensures
+    report_is run c.live-live.result c.no_moves.result c.self.inside.settled c.self.inside.cache.state
+    (c.live-live.ensures.live run.state.map run.state.addresses at.stands.stands.stands) c.no_moves.ensures
     (ap counts_of at.settled ∙ counts_are (tally_of run.moves) (ends_in (moves_entries run.moves)) (c.law_tally.ensures.yes run.moves) (c.law_tally.ensures.no run.moves) (c.law_tally.ensures.later run.moves) (c.law_tally.ensures.dont_need run.moves) (c.law_tally.ensures.dont_know run.moves) (c.law_tally.ensures.gone run.moves))
     at.stands.cache
 

@@ -23,7 +23,7 @@ runs c run at =
     let after =
     c.law_one_settle.ensures.settled run f.heap.heap c.settle-tally.new.heap.heap (course c) at.stands
     (subst (λ (s : Stage). settled s ≡ Some (course c)) stage does.settle)
-    (c.law_stage.ensures.whole c.settle-tally.new.cache.state c.settle-tally.new.heap.heap c.settle-tally.ensures.whole.0 c.settle-tally.ensures.whole.1 c.settle-tally.ensures.buffers)
+    (c.law_stage.ensures.whole c.settle-tally.new.cache.state c.settle-tally.new.heap.heap c.law_whole.ensures.whole c.settle-tally.ensures.calm c.settle-tally.ensures.buffers)
     (does.heap_moves.stands run.state.map run.state.addresses at.stands.stands)
     c.settle-tally.ensures.buffers in (
       after.0,

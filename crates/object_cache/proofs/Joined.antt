@@ -1,0 +1,22 @@
+use Rattle.std.proofs.Common.{ℕ, ◌≡◌, ◌≤◌, Some, length, sym, ap, ◌∙◌, subst}
+use Rattle.slab_list.specs.Slabs.{ListState}
+use Rattle.kmem_model.specs.declared.cache_entry.CacheEntry.{CacheEntry}
+use Rattle.kmem_model.specs.CacheState.{CacheState}
+use Rattle.kmem_model.specs.CacheEnter.{enter}
+use Rattle.kmem_model.proofs.SettleWhole.{AreSameSizes, enter_sizes, enter_whole}
+use Rattle.object_cache.specs.Cache.{AreJoined, cache_of}
+use Rattle.object_cache.specs.Moves.{MovesState}
+use Rattle.object_cache.specs.declared.scan.Scan.{Scan}
+
+-- the parts are joined after an entry, as they were before
+pub joined : (list next : ListState) (moves after : MovesState) (scan then : Scan) (entry : CacheEntry) →
+    AreJoined list moves scan → enter (cache_of list moves scan).state entry ≡ Some (cache_of next after then).state →
+    length next.cells ≡ length list.cells → then.numerator ≡ scan.numerator → AreJoined next after then
+joined list next moves after scan then entry it entered cells numerator =
+    record {
+      size = (enter_sizes (cache_of list moves scan).state (cache_of next after then).state entry entered).asked ∙ (it.size ∙ sym cells);
+      few = subst (λ n. n ≤ 65536) (sym cells) it.few;
+      least = subst (λ n. 1 ≤ n) (sym numerator) it.least;
+      most = subst (λ n. n ≤ 8) (sym numerator) it.most;
+      whole = enter_whole (cache_of list moves scan).state (cache_of next after then).state entry it.whole entered;
+    }
