@@ -1,0 +1,5 @@
+pub mod Queue
+pub mod Rule
+pub mod Count
+pub mod Seats
+pub mod Rooms
