@@ -1,5 +1,5 @@
 -- The script of a seed: three draws for each command (this project's own generator).
-use Rattle.std.specs.Prelude.{ℕ, ◌+◌, ◌*◌, ◌/◌, ◌%◌, ◌==◌, nat_lt, List, [], ◌∷◌, map, if◌then◌else◌}
+use Rattle.std.specs.Prelude.{ℕ, ◌+◌, ◌*◌, ◌/◌, ◌%◌, ◌==◌, nat_lt, List, [], ◌∷◌, ◌++◌, map, codes, if◌then◌else◌}
 use Rattle.std.specs.List.{range_with_len}
 use Rattle.std.specs.Fmt.{decimal}
 use Rattle.kmem_text.specs.Grammar.{Plain, script_of_lines}
@@ -10,15 +10,15 @@ use Rattle.generator.specs.Draws.{draw}
 
 -- n and three digits, one of n000 to n255
 abbrev pub made_name : ℕ → List ℕ
-made_name draw = let n = draw % 256 in 110 ∷ (48 + n / 100) ∷ (48 + n / 10 % 10) ∷ (48 + n % 10) ∷ []
+made_name draw = let n = draw % 256 in codes "n" ++ (48 + n / 100) ∷ (48 + n / 10 % 10) ∷ (48 + n % 10) ∷ []
 
 -- what a put gives: v and a number below a million
 abbrev pub put_value : ℕ → List ℕ
-put_value draw = 118 ∷ decimal (draw % 1000000)
+put_value draw = codes "v" ++ decimal (draw % 1000000)
 
 -- what a write gives: w and a number below a thousand
 abbrev pub write_value : ℕ → List ℕ
-write_value draw = 119 ∷ decimal (draw / 4 % 1000)
+write_value draw = codes "w" ++ decimal (draw / 4 % 1000)
 
 -- the commands that come once in 64
 abbrev pub rare_command : ℕ → ℕ → Spelled
