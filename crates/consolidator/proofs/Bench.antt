@@ -1,11 +1,8 @@
 -- The bench of the tests: what a put and a del leave.
-use Rattle.std.proofs.Common.{◌≡◌, ℕ, ◌<◌, ◌*◌, ◌≤◌, Bool, true, false, List, length, Option, None, Some, Result, Ok, Err, refl, sym, ◌∙◌, ap, subst, arith}
+use Rattle.std.proofs.Common.{◌≡◌, ℕ, Bool, true, false, length, Option, None, Some, Result, Ok, Err, refl, sym, ◌∙◌, ap}
 use Rattle.std.specs.Bool.{then_some}
 use Rattle.std.specs.Option.{IsSome, is_some}
-use Rattle.std.proofs.lemmas.List.{length-map}
-use Rattle.kmem_text.specs.declared.command.Command.TheVariants.{Put, Del}
 use Rattle.kmem_model.specs.CacheState.{CacheState}
-use Rattle.kmem_model.specs.RecordStep.{IsInRange}
 use Rattle.kmem_model.specs.One.{OneStep}
 use Rattle.kmem_model.specs.OneStands.{OneEnds}
 use Rattle.kmem_text.specs.declared.command.Reply.{Reply}
@@ -23,31 +20,6 @@ not_full false s h = refl
 
 pub ok_err : {A E : Type 0} (r : Result A E) (a : A) (e : E) → r ≡ Ok a → r ≡ Err e → ⊥
 ok_err r a e h k = absurd (cc)
-
--- the map has the names and tags of the heap
-pub names_are : (cache : CacheView) (heap : HeapView) (b : IsSetUp cache heap) → length b.state.map.names ≡ 48
-names_are cache heap b = sym (length-map b.state.map.names _) ∙ (ap length (sym b.stands.stands.paired.names) ∙ b.names)
-
-pub tags_are : (cache : CacheView) (heap : HeapView) (b : IsSetUp cache heap) → length b.state.map.tags ≡ 128
-tags_are cache heap b = sym (length-map b.state.map.tags _) ∙ (ap length (sym b.stands.stands.paired.tags) ∙ b.tags)
-
-pub put_in_range : (cache : CacheView) (heap : HeapView) (b : IsSetUp cache heap) (name : ℕ) (value : List ℕ) → name < 48 → IsInRange b.state.map 1 (Put (record { 0 = name }) value)
-put_in_range cache heap b name value lt =
-    record {
-      names = subst (λ n. name < n) (sym (names_are cache heap b)) lt;
-      tags = tt;
-      first = omega arith;
-      last = subst (λ n. 8 * 1 ≤ n) (sym (tags_are cache heap b)) (omega arith);
-    }
-
-pub del_in_range : (cache : CacheView) (heap : HeapView) (b : IsSetUp cache heap) (name : ℕ) → name < 48 → IsInRange b.state.map 1 (Del (record { 0 = name }))
-del_in_range cache heap b name lt =
-    record {
-      names = subst (λ n. name < n) (sym (names_are cache heap b)) lt;
-      tags = tt;
-      first = omega arith;
-      last = subst (λ n. 8 * 1 ≤ n) (sym (tags_are cache heap b)) (omega arith);
-    }
 
 -- after a command that ends so
 pub set_up_after : (cache : CacheView) (heap : HeapView) → IsSetUp cache heap → (new_cache : CacheView) (new_heap : HeapView) → IsFrame heap new_heap → new_cache.home ≡ cache.home →

@@ -4,12 +4,13 @@ ghost use Rattle.std.specs.Prelude.{◌<◌, IfOk};
 use crate::settle;
 use kmem_model::law_one_step;
 use kmem_text::{NameId, Value};
-use object_cache::{ObjectCache, Tally};
+use object_cache::{Job, ObjectCache, Tally};
 use record_heap::{Offer, RecordHeap, RecordKind};
 use slab_source::Supply;
 use std::alloc::{AllocError, Global};
 use std::marker::Model;
 use std::test::Fail;
+use std::thread::{Threads, join};
 
 // A cache of six slabs with eight buffers, and the records in them, with 48 names.
 #[derive(Drop)]
@@ -71,6 +72,41 @@ impl Bench {
         let tally = settle(&mut cache, &mut heap);
         (tally, cache.slab_count())
     }
+
+    // The first move of a scan, with the cache.
+    fn begun(self) -> Option<(ObjectCache<RecordKind>, Job<RecordKind>)> {
+        let Bench { mut cache, heap: _ } = self;
+        cache.start_scan(true);
+        match cache.begin() {
+            Ok(job) => Some((cache, job)),
+            Err(_) => None,
+        }
+    }
+}
+
+// A thread that has a cache of records and a job gives them back.
+fn through_a_thread<R: Threads>(
+    rt: &R,
+    cache: ObjectCache<RecordKind>,
+    job: Job<RecordKind>,
+) -> (ObjectCache<RecordKind>, Job<RecordKind>) {
+    let (back, ()) = join(rt, move || (cache, job), || ());
+    back
+}
+
+// The only record of the second slab moves to the buffer that is free on the first.
+#[test]
+fn a_cache_of_records_and_a_job_cross_threads(rt: HostRuntime) -> Result<(), Fail> {
+    let value = Value::from_bytes(b"x").ok_or("a value")?;
+    let mut bench = Bench::create(rt.alloc())?;
+    for name in 0..9 {
+        bench.put(name, value);
+    }
+    bench.del(0);
+    let (cache, job) = bench.begun().ok_or("a move")?;
+    let (cache, job) = through_a_thread(&rt, cache, job);
+    assert_eq!(rt; (cache.pending_count(), job.from(), job.to()), (1, 8, 0));
+    Ok(())
 }
 
 // Six full slabs of eight. All records but every eighth go: of the six that are left five move to one slab.

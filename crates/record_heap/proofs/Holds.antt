@@ -12,7 +12,7 @@ use Rattle.kmem_model.specs.RecordStep.{hold_step, write_step, drop_step, put_st
 use Rattle.kmem_model.specs.Heap.{Object, HeapState, blank, address_of, hold_at, object_at, has_record, is_leftover, IsTied, IsPaired}
 use Rattle.record_heap.specs.Objects.{held_more, held_less, is_unused}
 use Rattle.record_heap.specs.Changes.{value_in, holds_in, with_object, valued, fixed_at, tagged, untagged}
-use Rattle.record_heap.specs.Kept.{IsKept}
+use Rattle.record_heap.specs.Kept.{IsHeapKept}
 use Rattle.kmem_model.proofs.CacheLists.{counted}
 use Rattle.kmem_model.proofs.RecordsValid.{read_within, is_the_same}
 use Rattle.record_heap.proofs.Tied.{put_at, IsCounted, same_but, same_but-begun, same_but-ended, tied_used, tied_left, counted_held, counted_released}
@@ -21,7 +21,7 @@ use Rattle.record_heap.proofs.Kept.{one_if, kept_at, whole_of, whole_held, whole
 use Rattle.record_heap.proofs.Steps.{IsRecord, value_same, record_same, same_there, changed_there, begun_mapped, ended_mapped, low, record_now, left_now, none_some, counts_stay, valued_stands, fixed_stands}
 use Rattle.record_heap.proofs.Names.{apart_in, read_less, ended_map}
 
-module _ (h : HeapState) (p r l : ℕ) (kept : IsKept h p r l) (b : ℕ) (it : IsRecord h b) where
+module _ (h : HeapState) (p r l : ℕ) (kept : IsHeapKept h p r l) (b : ℕ) (it : IsRecord h b) where
   -- A value or a flag is written
 
   pub fix_stands : (m : RecordMap) (a : List ℕ) → IsValid m → IsPaired m a h → (name : ℕ) → address_of h name ≡ Some b → (fixed : Bool) →
@@ -63,10 +63,10 @@ module _ (h : HeapState) (p r l : ℕ) (kept : IsKept h p r l) (b : ℕ) (it : I
         tied_used h h.names (set h.tags place (Some b)) b kept.tied (low h p r l kept b it) (same_but b h.names) (same_but-begun b h.tags place was) (held_more it.o)
         (counted_held h.names h.tags b place it.o it.counts below was) (λ none. omega (arith, none))
 
-    pub tagged_kept : IsKept (tagged h place b) p r l
+    pub tagged_kept : IsHeapKept (tagged h place b) p r l
     tagged_kept =
         let c = counts_stay h p r l kept b it (held_more it.o) it.has in
-        subst (λ k. IsKept k p r l) (sym tagged_is)
+        subst (λ k. IsHeapKept k p r l) (sym tagged_is)
         (kept_at h p r l kept h.names (set h.tags place (Some b)) b (low h p r l kept b it) (Some (held_more it.o)) p r l tied_tag
         (whole_of (held_more it.o) (whole_held it.o it.has it.whole)) refl (length-set h.tags place (Some b)) kept.names_counted c.0 c.1)
 
@@ -110,19 +110,19 @@ module _ (h : HeapState) (p r l : ℕ) (kept : IsKept h p r l) (b : ℕ) (it : I
         tied_left h h.names (set h.tags place None) b kept.tied (low h p r l kept b it) (same_but b h.names) (same_but-ended b h.tags place was) (held_less it.o) counts
         (eqb-true (length (held_less it.o).names + (held_less it.o).holds) 0 unused)
 
-    pub untagged_kept : is_unused (held_less it.o) ≡ false → IsKept (untagged h place b) p r l
+    pub untagged_kept : is_unused (held_less it.o) ≡ false → IsHeapKept (untagged h place b) p r l
     untagged_kept used =
         let c = counts_stay h p r l kept b it (held_less it.o) it.has in
-        subst (λ k. IsKept k p r l) (sym untagged_is)
+        subst (λ k. IsHeapKept k p r l) (sym untagged_is)
         (kept_at h p r l kept h.names (set h.tags place None) b (low h p r l kept b it) (Some (held_less it.o)) p r l (tied_untag used)
         (whole_of (held_less it.o) (whole_released it.o it.has it.whole)) refl (length-set h.tags place None) kept.names_counted c.0 c.1)
 
     pub some_record : 1 ≤ r
     some_record = omega (arith, kept.records_counted, counted has_record h.objects b None (low h p r l kept b it) (record_now h p r l kept b it))
 
-    pub left_kept : is_unused (held_less it.o) ≡ true → IsKept (with_object (untagged h place b) b (Some blank)) p (r - 1) (l + 1)
+    pub left_kept : is_unused (held_less it.o) ≡ true → IsHeapKept (with_object (untagged h place b) b (Some blank)) p (r - 1) (l + 1)
     left_kept unused =
-        subst (λ k. IsKept k p (r - 1) (l + 1)) (sym left_is)
+        subst (λ k. IsHeapKept k p (r - 1) (l + 1)) (sym left_is)
         (kept_at h p r l kept h.names (set h.tags place None) b (low h p r l kept b it) (Some blank) p (r - 1) (l + 1) (tied_leave unused) (whole_of blank whole_blank) refl (length-set h.tags place None) kept.names_counted
         (omega (arith, some_record, ap one_if (record_now h p r l kept b it)))
         (let z : l + 1 + one_if (is_leftover (object_at h b)) ≡ l + 1 = omega (arith, ap one_if (left_now h p r l kept b it ∙ none_some h p r l kept b it it.o.value it.has)) in z))

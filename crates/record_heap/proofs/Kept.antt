@@ -7,7 +7,7 @@ use Rattle.std.proofs.lemmas.List.Sums.{sum_by_push}
 use Rattle.kmem_model.specs.Heap.{Object, HeapState, blank, address_of, hold_at, object_at, has_record, is_leftover, IsTied}
 use Rattle.record_heap.specs.Objects.{with_value, with_fixed, with_back, without_back, held_more, held_less}
 use Rattle.record_heap.specs.Changes.{first_object}
-use Rattle.record_heap.specs.Kept.{IsWhole, IsKept}
+use Rattle.record_heap.specs.Kept.{IsObjectKept, IsHeapKept}
 use Rattle.kmem_model.proofs.CacheLists.{count-set, count-cons}
 use Rattle.record_heap.proofs.Lists.{count-filter-le}
 use Rattle.record_heap.proofs.Tied.{put_at, counted_in, named_used, held_used}
@@ -16,11 +16,11 @@ use Rattle.record_heap.proofs.Tied.{put_at, counted_in, named_used, held_used}
 abbrev pub one_if : Bool → ℕ
 one_if b = cond b 1 0
 
-module _ (h : HeapState) (present records leftovers : ℕ) (kept : IsKept h present records leftovers) (names tags : List (Option ℕ)) (b : ℕ) (low : b < length h.objects) where
-  pub kept_at : (o : Option Object) (present' records' leftovers' : ℕ) → IsTied (put_at h names tags b o) → ((p : Object) → o ≡ Some p → IsWhole p) →
+module _ (h : HeapState) (present records leftovers : ℕ) (kept : IsHeapKept h present records leftovers) (names tags : List (Option ℕ)) (b : ℕ) (low : b < length h.objects) where
+  pub kept_at : (o : Option Object) (present' records' leftovers' : ℕ) → IsTied (put_at h names tags b o) → ((p : Object) → o ≡ Some p → IsObjectKept p) →
       length names ≡ length h.names → length tags ≡ length h.tags → present' ≡ count_by is_some names →
       records' + one_if (has_record (object_at h b)) ≡ records + one_if (has_record o) → leftovers' + one_if (is_leftover (object_at h b)) ≡ leftovers + one_if (is_leftover o) →
-      IsKept (put_at h names tags b o) present' records' leftovers'
+      IsHeapKept (put_at h names tags b o) present' records' leftovers'
   kept_at o present' records' leftovers' tied whole same_names same_tags names_are records_are leftovers_are =
       record {
         tied = tied;
@@ -42,25 +42,25 @@ module _ (h : HeapState) (present records leftovers : ℕ) (kept : IsKept h pres
 pub some_is : (x y : Object) → ◌≡◌ {A = Option Object} (Some x) (Some y) → x ≡ y
 some_is x y e = cc
 
-pub whole_of : (o : Object) → IsWhole o → (p : Object) → ◌≡◌ {A = Option Object} (Some o) (Some p) → IsWhole p
-whole_of o whole p e = subst IsWhole (some_is o p e) whole
+pub whole_of : (o : Object) → IsObjectKept o → (p : Object) → ◌≡◌ {A = Option Object} (Some o) (Some p) → IsObjectKept p
+whole_of o whole p e = subst IsObjectKept (some_is o p e) whole
 
-pub whole_blank : IsWhole blank
+pub whole_blank : IsObjectKept blank
 whole_blank = record { once = λ name. omega arith; valued = λ used. absurd (used refl) }
 
-pub whole_value : (o : Object) (value : List ℕ) → IsWhole o → IsWhole (with_value value o)
+pub whole_value : (o : Object) (value : List ℕ) → IsObjectKept o → IsObjectKept (with_value value o)
 whole_value o value w = record { once = w.once; valued = λ used. refl }
 
-pub whole_fixed : (o : Object) (fixed : Bool) → IsWhole o → IsWhole (with_fixed fixed o)
+pub whole_fixed : (o : Object) (fixed : Bool) → IsObjectKept o → IsObjectKept (with_fixed fixed o)
 whole_fixed o fixed w = record { once = w.once; valued = w.valued }
 
-pub whole_held : (o : Object) → is_some o.value ≡ true → IsWhole o → IsWhole (held_more o)
+pub whole_held : (o : Object) → is_some o.value ≡ true → IsObjectKept o → IsObjectKept (held_more o)
 whole_held o valued w = record { once = w.once; valued = λ used. valued }
 
-pub whole_released : (o : Object) → is_some o.value ≡ true → IsWhole o → IsWhole (held_less o)
+pub whole_released : (o : Object) → is_some o.value ≡ true → IsObjectKept o → IsObjectKept (held_less o)
 whole_released o valued w = record { once = w.once; valued = λ used. valued }
 
-pub whole_without : (o : Object) (name : ℕ) → is_some o.value ≡ true → IsWhole o → IsWhole (without_back name o)
+pub whole_without : (o : Object) (name : ℕ) → is_some o.value ≡ true → IsObjectKept o → IsObjectKept (without_back name o)
 whole_without o name valued w =
     record {
       once = λ other. omega (arith, w.once other, count-filter-le (λ n. n == other) (λ n. not (n == name)) o.names);
@@ -68,7 +68,7 @@ whole_without o name valued w =
     }
 
 -- a name that isn't there yet
-pub whole_back : (o : Object) (name : ℕ) → is_some o.value ≡ true → list_any (λ n. n == name) o.names ≡ false → IsWhole o → IsWhole (with_back name o)
+pub whole_back : (o : Object) (name : ℕ) → is_some o.value ≡ true → list_any (λ n. n == name) o.names ≡ false → IsObjectKept o → IsObjectKept (with_back name o)
 whole_back o name valued new w =
     record {
       once = λ other.
@@ -101,7 +101,7 @@ whole_back o name valued new w =
           none_counted xs (or_parts (x == name) (list_any (λ n. n == name) xs) e).1,
         )
 
-pub whole_first : (name : ℕ) (value : List ℕ) → IsWhole (first_object name value)
+pub whole_first : (name : ℕ) (value : List ℕ) → IsObjectKept (first_object name value)
 whole_first name value =
     record {
       once = λ other. count_one (name == other) (count-cons (λ n. n == other) name []);
@@ -113,20 +113,20 @@ whole_first name value =
     count_one false e = omega (arith, e)
 
 -- what something leads to has a value
-pub named_valued : (h : HeapState) (present records leftovers : ℕ) → IsKept h present records leftovers → (name b : ℕ) (o : Object) → address_of h name ≡ Some b → object_at h b ≡ Some o →
+pub named_valued : (h : HeapState) (present records leftovers : ℕ) → IsHeapKept h present records leftovers → (name b : ℕ) (o : Object) → address_of h name ≡ Some b → object_at h b ≡ Some o →
     (length o.names + o.holds ≢ 0) × (is_some o.value ≡ true)
 named_valued h present records leftovers kept name b o leads is =
     let used = named_used h.names h.tags b o name (counted_in h b o (kept.tied.objects b o is)) leads in
     (used, (kept.whole b o is).valued used)
 
-pub held_valued : (h : HeapState) (present records leftovers : ℕ) → IsKept h present records leftovers → (place b : ℕ) (o : Object) → hold_at h place ≡ Some b → object_at h b ≡ Some o →
+pub held_valued : (h : HeapState) (present records leftovers : ℕ) → IsHeapKept h present records leftovers → (place b : ℕ) (o : Object) → hold_at h place ≡ Some b → object_at h b ≡ Some o →
     (0 < o.holds) × (is_some o.value ≡ true)
 held_valued h present records leftovers kept place b o leads is =
     let held = held_used h.names h.tags b o place (counted_in h b o (kept.tied.objects b o is)) leads in
     (held, (kept.whole b o is).valued (λ none. omega (arith, none, held)))
 
 -- an object of no record is blank
-pub leftover_blank : (h : HeapState) (present records leftovers : ℕ) → IsKept h present records leftovers → (b : ℕ) → is_leftover (object_at h b) ≡ true → object_at h b ≡ Some blank
+pub leftover_blank : (h : HeapState) (present records leftovers : ℕ) → IsHeapKept h present records leftovers → (b : ℕ) → is_leftover (object_at h b) ≡ true → object_at h b ≡ Some blank
 leftover_blank h present records leftovers kept b left = by (object_at h b) refl left
   where
     by : (x : Option Object) → object_at h b ≡ x → is_leftover x ≡ true → object_at h b ≡ Some blank

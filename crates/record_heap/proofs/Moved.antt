@@ -10,7 +10,7 @@ use Rattle.kmem_model.proofs.CacheLists.{count-set_same, count-set_less, count-s
 use Rattle.kmem_model.proofs.RecordsValid.{is_the_some, read_within}
 use Rattle.kmem_model.proofs.Relocates as relocates
 use Rattle.kmem_model.proofs.Relocates.{read_moved}
-use Rattle.record_heap.specs.Kept.{IsKept}
+use Rattle.record_heap.specs.Kept.{IsHeapKept}
 
 -- where each of these names was made to lead to the new place, and they are the names that led to the old one
 pub renamed_is : (names renamed : List (Option ℕ)) (moved : List ℕ) (old new : ℕ) → length renamed ≡ length names →
@@ -50,7 +50,7 @@ module _ (h : HeapState) (old new : ℕ) (o : Object) (here : object_at h old �
   none_is x e = cc
 
   -- what is kept
-  pub moved_kept : (p r l : ℕ) → IsKept h p r l → o.holds ≡ 0 → length o.names + o.holds ≢ 0 → has_record (object_at h old) ≡ true → IsKept (relocated h old new) p r l
+  pub moved_kept : (p r l : ℕ) → IsHeapKept h p r l → o.holds ≡ 0 → length o.names + o.holds ≢ 0 → has_record (object_at h old) ≡ true → IsHeapKept (relocated h old new) p r l
   moved_kept p r l kept free used lives =
       let there : is_leftover (object_at h old) ≡ false = no_leftover (object_at h old) lives in
       let low_old : old < length (set h.objects new (object_at h old)) = omega (arith, length-set h.objects new (object_at h old), read_within h.objects old o here) in

@@ -10,7 +10,7 @@ use Rattle.kmem_model.specs.RecordStep.{del_step, link_step}
 use Rattle.kmem_model.specs.Heap.{Object, HeapState, address_of, object_at, has_record, address_in, IsTied, IsPaired}
 use Rattle.record_heap.specs.Objects.{with_back, without_back, is_unused}
 use Rattle.record_heap.specs.Changes.{value_in, names_in, with_object, linked, unlinked}
-use Rattle.record_heap.specs.Kept.{IsKept}
+use Rattle.record_heap.specs.Kept.{IsHeapKept}
 use Rattle.kmem_model.proofs.CacheLists.{counted, count-set_more, count-set_less}
 use Rattle.kmem_model.proofs.RecordsValid.{some_within, read_within}
 use Rattle.record_heap.proofs.Lists.{is_the-none}
@@ -48,7 +48,7 @@ ended_map m id = record m { records = set m.records id None }
 pub one_id : (i j : ℕ) → ◌≡◌ {A = Option ℕ} (Some i) (Some j) → i ≡ j
 one_id i j e = cc
 
-module _ (h : HeapState) (p r l : ℕ) (kept : IsKept h p r l) (b : ℕ) (it : IsRecord h b) where
+module _ (h : HeapState) (p r l : ℕ) (kept : IsHeapKept h p r l) (b : ℕ) (it : IsRecord h b) where
   -- One name more
 
   module _ (n : ℕ) (below : n < length h.names) (was : address_of h n ≡ None) where
@@ -60,10 +60,10 @@ module _ (h : HeapState) (p r l : ℕ) (kept : IsKept h p r l) (b : ℕ) (it : I
         tied_used h (set h.names n (Some b)) h.tags b kept.tied (low h p r l kept b it) (same_but-begun b h.names n was) (same_but b h.tags) (with_back n it.o)
         (counted_linked h.names h.tags b n it.o it.counts below was) (λ none. omega (arith, none, length-append it.o.names (n ∷ [])))
 
-    pub linked_kept : IsKept (linked h n b) (p + 1) r l
+    pub linked_kept : IsHeapKept (linked h n b) (p + 1) r l
     linked_kept =
         let c = counts_stay h p r l kept b it (with_back n it.o) it.has in
-        subst (λ k. IsKept k (p + 1) r l) (sym linked_is)
+        subst (λ k. IsHeapKept k (p + 1) r l) (sym linked_is)
         (kept_at h p r l kept (set h.names n (Some b)) h.tags b (low h p r l kept b it) (Some (with_back n it.o)) (p + 1) r l tied_link
         (whole_of (with_back n it.o) (whole_back it.o n it.has (it.counts.back n ∙ is_the-none (address_of h n) b was) it.whole)) (length-set h.names n (Some b)) refl
         (omega (arith, kept.names_counted, count-set_more is_some h.names n (Some b) None below (ap is_some was) refl)) c.0 c.1)
@@ -142,10 +142,10 @@ module _ (h : HeapState) (p r l : ℕ) (kept : IsKept h p r l) (b : ℕ) (it : I
         tied_gone h (set h.names n None) h.tags b kept.tied (low h p r l kept b it) (same_but-ended b h.names n was) (same_but b h.tags) (without_back n it.o) counts
         (eqb-true (length (without_back n it.o).names + (without_back n it.o).holds) 0 unused)
 
-    pub unlinked_kept : is_unused (without_back n it.o) ≡ false → IsKept (unlinked h n b) (p - 1) r l
+    pub unlinked_kept : is_unused (without_back n it.o) ≡ false → IsHeapKept (unlinked h n b) (p - 1) r l
     unlinked_kept used =
         let c = counts_stay h p r l kept b it (without_back n it.o) it.has in
-        subst (λ k. IsKept k (p - 1) r l) (sym unlinked_is)
+        subst (λ k. IsHeapKept k (p - 1) r l) (sym unlinked_is)
         (kept_at h p r l kept (set h.names n None) h.tags b (low h p r l kept b it) (Some (without_back n it.o)) (p - 1) r l (tied_unlink used)
         (whole_of (without_back n it.o) (whole_without it.o n it.has it.whole)) (length-set h.names n None) refl fewer c.0 c.1)
 
@@ -153,9 +153,9 @@ module _ (h : HeapState) (p r l : ℕ) (kept : IsKept h p r l) (b : ℕ) (it : I
     some_record =
         omega (arith, kept.records_counted, counted has_record h.objects b None (low h p r l kept b it) (record_now h p r l kept b it))
 
-    pub ended_kept : is_unused (without_back n it.o) ≡ true → IsKept (with_object (unlinked h n b) b None) (p - 1) (r - 1) l
+    pub ended_kept : is_unused (without_back n it.o) ≡ true → IsHeapKept (with_object (unlinked h n b) b None) (p - 1) (r - 1) l
     ended_kept unused =
-        subst (λ k. IsKept k (p - 1) (r - 1) l) (sym ended_is)
+        subst (λ k. IsHeapKept k (p - 1) (r - 1) l) (sym ended_is)
         (kept_at h p r l kept (set h.names n None) h.tags b (low h p r l kept b it) None (p - 1) (r - 1) l (tied_end unused) (λ q e. absurd (never q e)) (length-set h.names n None) refl fewer
         (omega (arith, some_record, ap one_if (record_now h p r l kept b it)))
         (ap (λ t. l + one_if t) (left_now h p r l kept b it ∙ none_some h p r l kept b it it.o.value it.has)))

@@ -10,7 +10,7 @@ use Rattle.kmem_model.specs.Records.{RecordMap, IsValid, no_records, id_of}
 use Rattle.kmem_model.specs.RecordStep.{put_step}
 use Rattle.kmem_model.specs.Heap.{least_left_in, Object, HeapState, blank, address_of, object_at, has_record, is_leftover, address_in, IsTied, IsPaired}
 use Rattle.record_heap.specs.Changes.{value_in, with_object, made, first_object}
-use Rattle.record_heap.specs.Kept.{IsKept}
+use Rattle.record_heap.specs.Kept.{IsHeapKept}
 use Rattle.kmem_model.proofs.CacheLists.{count-set_more, counted}
 use Rattle.kmem_model.proofs.RecordsValid.{read_within, some_within}
 use Rattle.record_heap.proofs.Lists.{count_none}
@@ -29,7 +29,7 @@ was_put m a h valid s name b value v leads is =
 
 -- A new record
 
-module _ (h : HeapState) (p r l : ℕ) (kept : IsKept h p r l) (n b : ℕ) (value : List ℕ) (below : n < length h.names) (low : b < length h.objects) (was : address_of h n ≡ None) (free : IsCounted h.names h.tags b blank) (none : has_record (object_at h b) ≡ false) where
+module _ (h : HeapState) (p r l : ℕ) (kept : IsHeapKept h p r l) (n b : ℕ) (value : List ℕ) (below : n < length h.names) (low : b < length h.objects) (was : address_of h n ≡ None) (free : IsCounted h.names h.tags b blank) (none : has_record (object_at h b) ≡ false) where
   tied_made : IsTied (made h n b value)
   tied_made =
       tied_used h (set h.names n (Some b)) h.tags b kept.tied low (same_but-begun b h.names n was) (same_but b h.tags) (first_object n value)
@@ -38,7 +38,7 @@ module _ (h : HeapState) (p r l : ℕ) (kept : IsKept h p r l) (n b : ℕ) (valu
       first : IsCounted (set h.names n (Some b)) h.tags b (record { value = None; names = [] ++ n ∷ []; holds = 0; fixed = false }) → IsCounted (set h.names n (Some b)) h.tags b (first_object n value)
       first c = record { back = c.back; once = c.once; held = c.held }
 
-  pub made_kept : (l' : ℕ) → l' + one_if (is_leftover (object_at h b)) ≡ l → IsKept (made h n b value) (p + 1) (r + 1) l'
+  pub made_kept : (l' : ℕ) → l' + one_if (is_leftover (object_at h b)) ≡ l → IsHeapKept (made h n b value) (p + 1) (r + 1) l'
   made_kept l' left =
       kept_at h p r l kept (set h.names n (Some b)) h.tags b low (Some (first_object n value)) (p + 1) (r + 1) l' tied_made
       (whole_of (first_object n value) (whole_first n value)) (length-set h.names n (Some b)) refl
@@ -51,13 +51,13 @@ module _ (h : HeapState) (p r l : ℕ) (kept : IsKept h p r l) (n b : ℕ) (valu
       (stands_made m a h valid s n b value low none tied_made)
 
 -- where there is no object, or a leftover
-pub empty_free : (h : HeapState) (p r l : ℕ) → IsKept h p r l → (b : ℕ) → object_at h b ≡ None → IsCounted h.names h.tags b blank
+pub empty_free : (h : HeapState) (p r l : ℕ) → IsHeapKept h p r l → (b : ℕ) → object_at h b ≡ None → IsCounted h.names h.tags b blank
 empty_free h p r l kept b empty = counted_empty h b kept.tied empty
 
-pub left_free : (h : HeapState) (p r l : ℕ) → IsKept h p r l → (b : ℕ) → is_leftover (object_at h b) ≡ true → IsCounted h.names h.tags b blank
+pub left_free : (h : HeapState) (p r l : ℕ) → IsHeapKept h p r l → (b : ℕ) → is_leftover (object_at h b) ≡ true → IsCounted h.names h.tags b blank
 left_free h p r l kept b left = counted_in h b blank (kept.tied.objects b blank (leftover_blank h p r l kept b left))
 
-pub fewer_left : (h : HeapState) (p r l : ℕ) → IsKept h p r l → (b : ℕ) → is_leftover (object_at h b) ≡ true → 1 ≤ l
+pub fewer_left : (h : HeapState) (p r l : ℕ) → IsHeapKept h p r l → (b : ℕ) → is_leftover (object_at h b) ≡ true → 1 ≤ l
 fewer_left h p r l kept b left =
     omega (arith, kept.leftovers_counted, counted is_leftover h.objects b None (some_within h.objects b (there (object_at h b) left)) left)
   where
@@ -66,7 +66,7 @@ fewer_left h p r l kept b left =
     there (Some o) e = refl
 
 -- where none is counted, none is the least
-pub no_leftover : (h : HeapState) (p r l : ℕ) → IsKept h p r l → l ≡ 0 → least_left_in h ≡ None
+pub no_leftover : (h : HeapState) (p r l : ℕ) → IsHeapKept h p r l → l ≡ 0 → least_left_in h ≡ None
 no_leftover h p r l kept nothing_left =
     least_none (length h.objects) (λ b. is_leftover (object_at h b))
     (λ b. false_from_ne_true (is_leftover (object_at h b)) (λ left. omega (arith, nothing_left, fewer_left h p r l kept b left)))
@@ -77,7 +77,7 @@ no_leftover h p r l kept nothing_left =
 
 -- A leftover goes
 
-pub without_kept : (h : HeapState) (p r l : ℕ) → IsKept h p r l → (b : ℕ) → is_leftover (object_at h b) ≡ true → IsKept (with_object h b None) p r (l - 1)
+pub without_kept : (h : HeapState) (p r l : ℕ) → IsHeapKept h p r l → (b : ℕ) → is_leftover (object_at h b) ≡ true → IsHeapKept (with_object h b None) p r (l - 1)
 without_kept h p r l kept b left =
     let is = leftover_blank h p r l kept b left in
     let low = read_within h.objects b blank is in
@@ -88,7 +88,7 @@ without_kept h p r l kept b left =
     never : (q : Object) → ◌≡◌ {A = Option Object} None (Some q) → ⊥
     never q e = cc
 
-pub without_stands : (h : HeapState) (p r l : ℕ) → IsKept h p r l → (b : ℕ) → is_leftover (object_at h b) ≡ true → (m : RecordMap) (a : List ℕ) → IsPaired m a h → IsPaired m a (with_object h b None)
+pub without_stands : (h : HeapState) (p r l : ℕ) → IsHeapKept h p r l → (b : ℕ) → is_leftover (object_at h b) ≡ true → (m : RecordMap) (a : List ℕ) → IsPaired m a h → IsPaired m a (with_object h b None)
 without_stands h p r l kept b left m a s = stands_without m a h s b (no_record (object_at h b) left) (without_kept h p r l kept b left).tied
 
 -- The heap of no record

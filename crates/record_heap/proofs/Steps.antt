@@ -14,7 +14,7 @@ use Rattle.kmem_model.specs.RecordStep.{Step, get_step, at_step, read_step}
 use Rattle.kmem_model.specs.Heap.{Object, HeapState, address_of, hold_at, object_at, record_of, has_record, is_leftover, address_in, IsTied, IsPaired}
 use Rattle.record_heap.specs.Objects.{with_value, with_fixed, is_unused}
 use Rattle.record_heap.specs.Changes.{value_in, changed_at, valued, fixed_at}
-use Rattle.record_heap.specs.Kept.{IsWhole, IsKept}
+use Rattle.record_heap.specs.Kept.{IsObjectKept, IsHeapKept}
 use Rattle.kmem_model.proofs.RecordsValid.{read_within}
 use Rattle.kmem_model.proofs.Heaps.{least_agree}
 use Rattle.record_heap.proofs.Tied.{put_at, IsCounted, counted_in, same_but, tied_used}
@@ -50,15 +50,15 @@ pub record IsRecord (h : HeapState) (b : ℕ) : Type 0 where
   pub used : length o.names + o.holds ≢ 0
   pub has : is_some o.value ≡ true
   pub counts : IsCounted h.names h.tags b o
-  pub whole : IsWhole o
+  pub whole : IsObjectKept o
 
-pub of_name : (h : HeapState) (p r l : ℕ) → IsKept h p r l → (name b : ℕ) → address_of h name ≡ Some b → IsRecord h b
+pub of_name : (h : HeapState) (p r l : ℕ) → IsHeapKept h p r l → (name b : ℕ) → address_of h name ≡ Some b → IsRecord h b
 of_name h p r l kept name b leads =
     let t = there h b (kept.tied.named name b leads) in
     let v = named_valued h p r l kept name b t.o leads t.at in
     record { o = t.o; at = t.at; used = v.0; has = v.1; counts = counted_in h b t.o (kept.tied.objects b t.o t.at); whole = kept.whole b t.o t.at }
 
-pub of_tag : (h : HeapState) (p r l : ℕ) → IsKept h p r l → (place b : ℕ) → hold_at h place ≡ Some b → IsRecord h b
+pub of_tag : (h : HeapState) (p r l : ℕ) → IsHeapKept h p r l → (place b : ℕ) → hold_at h place ≡ Some b → IsRecord h b
 of_tag h p r l kept place b leads =
     let t = there h b (kept.tied.held place b leads) in
     let v = held_valued h p r l kept place b t.o leads t.at in
@@ -155,7 +155,7 @@ module _ (m : RecordMap) (a : List ℕ) (h : HeapState) (s : IsPaired m a h) (x 
 
 -- Values and flags
 
-module _ (h : HeapState) (p r l : ℕ) (kept : IsKept h p r l) (b : ℕ) (it : IsRecord h b) where
+module _ (h : HeapState) (p r l : ℕ) (kept : IsHeapKept h p r l) (b : ℕ) (it : IsRecord h b) where
   pub low : b < length h.objects
   low = read_within h.objects b it.o it.at
 
@@ -187,7 +187,7 @@ module _ (h : HeapState) (p r l : ℕ) (kept : IsKept h p r l) (b : ℕ) (it : I
       (ap (λ t. r + one_if t) (record_now ∙ sym has), ap (λ t. l + one_if t) (left_now ∙ (none_some it.o.value it.has ∙ sym (none_some o.value has))))
 
   -- the object changes, and its names and tags stay
-  kept_same : (o : Object) → o.names ≡ it.o.names → o.holds ≡ it.o.holds → is_some o.value ≡ true → IsWhole o → IsKept (put_at h h.names h.tags b (Some o)) p r l
+  kept_same : (o : Object) → o.names ≡ it.o.names → o.holds ≡ it.o.holds → is_some o.value ≡ true → IsObjectKept o → IsHeapKept (put_at h h.names h.tags b (Some o)) p r l
   kept_same o names holds has whole =
       let c = counts_stay o has in
       kept_at h p r l kept h.names h.tags b low (Some o) p r l (tied_same o (counts_of o names holds) (used_of o names holds)) (whole_of o whole) refl refl kept.names_counted c.0 c.1
@@ -198,13 +198,13 @@ module _ (h : HeapState) (p r l : ℕ) (kept : IsKept h p r l) (b : ℕ) (it : I
   changed_is : (change : Object → Object) → changed_at h b change ≡ put_at h h.names h.tags b (Some (change it.o))
   changed_is change = ap (λ (y : Option Object). put_at h h.names h.tags b (option_map change y)) it.at
 
-  pub fixed_kept : (fixed : Bool) → IsKept (fixed_at h b fixed) p r l
+  pub fixed_kept : (fixed : Bool) → IsHeapKept (fixed_at h b fixed) p r l
   fixed_kept fixed =
-      subst (λ k. IsKept k p r l) (sym (changed_is (with_fixed fixed))) (kept_same (with_fixed fixed it.o) refl refl it.has (whole_fixed it.o fixed it.whole))
+      subst (λ k. IsHeapKept k p r l) (sym (changed_is (with_fixed fixed))) (kept_same (with_fixed fixed it.o) refl refl it.has (whole_fixed it.o fixed it.whole))
 
-  pub valued_kept : (value : List ℕ) → IsKept (valued h b value) p r l
+  pub valued_kept : (value : List ℕ) → IsHeapKept (valued h b value) p r l
   valued_kept value =
-      subst (λ k. IsKept k p r l) (sym (changed_is (with_value value))) (kept_same (with_value value it.o) refl refl refl (whole_value it.o value it.whole))
+      subst (λ k. IsHeapKept k p r l) (sym (changed_is (with_value value))) (kept_same (with_value value it.o) refl refl refl (whole_value it.o value it.whole))
 
   module _ (m : RecordMap) (a : List ℕ) (s : IsPaired m a h) (x : Option ℕ) (led_to : IsLed m a x b) where
     pub fixed_stands : (fixed : Bool) → IsPaired (map_of.with_fixed m led_to.id fixed) a (fixed_at h b fixed)

@@ -3,14 +3,14 @@ use Rattle.std.specs.Prelude.{ℕ, ◌≡◌, ◌≢◌, ◌+◌, ◌<◌, ◌�
 use Rattle.kmem_model.specs.Heap.{Object, HeapState, object_at, kept_count, leftover_count, IsTied}
 
 -- no back reference stands twice, and an object that a name or a tag leads to has a value
-pub record IsWhole (o : Object) : Type 0 where
+pub record IsObjectKept (o : Object) : Type 0 where
   pub once : (name : ℕ) → count_by (λ other. other == name) o.names ≤ 1
   pub valued : length o.names + o.holds ≢ 0 → is_some o.value ≡ true
 
 -- names, tags and objects fit together, and the counts are right
-pub record IsKept (h : HeapState) (present records leftovers : ℕ) : Type 0 where
+pub record IsHeapKept (h : HeapState) (present records leftovers : ℕ) : Type 0 where
   pub tied : IsTied h
-  pub whole : (b : ℕ) (o : Object) → object_at h b ≡ Some o → IsWhole o
+  pub whole : (b : ℕ) (o : Object) → object_at h b ≡ Some o → IsObjectKept o
   pub names : length h.names < 2 ^ 32
   pub tags : length h.tags ≤ 128
   pub objects : length h.objects ≤ 65536

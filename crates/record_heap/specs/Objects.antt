@@ -7,7 +7,11 @@ use Rattle.kmem_model.specs.Heap.{Object}
 -- an object is stored as its parts
 abbrev pub object_code : Coded Object
 object_code =
-    code_by (Option (List ℕ) × (List ℕ × (ℕ × Bool))) (coded× (coded_option (coded_list coded_ℕ)) (coded× (coded_list coded_ℕ) (coded× coded_ℕ coded_bool))) (λ o. (o.value, (o.names, (o.holds, o.fixed)))) (λ t. record { value = t.0; names = t.1.0; holds = t.1.1.0; fixed = t.1.1.1 }) (λ _. refl)
+    code_by (Option (List ℕ) × (List ℕ × (ℕ × Bool)))
+    (coded× (coded_option (coded_list coded_ℕ)) (coded× (coded_list coded_ℕ) (coded× coded_ℕ coded_bool)))
+    (λ o. (o.value, (o.names, (o.holds, o.fixed))))
+    (λ t. record { value = t.0; names = t.1.0; holds = t.1.1.0; fixed = t.1.1.1 })
+    (λ _. refl)
 
 -- the object with this value
 abbrev pub with_value : List ℕ → Object → Object

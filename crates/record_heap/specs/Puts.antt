@@ -22,8 +22,10 @@ offered (Refused note) = None
 -- the name was there: its record has the value, and the buffer that was offered comes back
 pub record IsReplaced (old : HeapView) (name : ℕ) (value : List ℕ) (offer : Offer) (end : PutEnd) (new : HeapView) : Type 0 where
   pub back : (was : List ℕ) × (end ≡ Replied (Was was) (offered offer))
-  pub reply : (m : RecordMap) (addresses : List ℕ) → StandsFor m addresses old.heap → end ≡ Replied (put_step m name value (id_of m name)).reply (offered offer)
-  pub stands : (m : RecordMap) (addresses : List ℕ) → StandsFor m addresses old.heap → StandsFor (put_step m name value (id_of m name)).map addresses new.heap
+  pub reply : (m : RecordMap) (addresses : List ℕ) → StandsFor m addresses old.heap →
+      end ≡ Replied (put_step m name value (id_of m name)).reply (offered offer)
+  pub stands : (m : RecordMap) (addresses : List ℕ) → StandsFor m addresses old.heap →
+      StandsFor (put_step m name value (id_of m name)).map addresses new.heap
   pub places : places_of new.heap.objects ≡ places_of old.heap.objects
 
 -- a buffer that is offered is of these cells, and constructed

@@ -26,7 +26,11 @@ pub record HoldState : Type 0 where
 -- it is stored as its parts
 abbrev pub hold_code : Coded HoldState
 hold_code =
-    code_by (ℕ × (ℕ × (ℕ × TableId))) (coded× coded_ℕ (coded× coded_ℕ (coded× coded_ℕ table_id_coded))) (λ h. (h.worker, (h.tag, (h.address, h.home)))) (λ t. record { worker = t.0; tag = t.1.0; address = t.1.1.0; home = t.1.1.1 }) (λ _. refl)
+    code_by (ℕ × (ℕ × (ℕ × TableId)))
+    (coded× coded_ℕ (coded× coded_ℕ (coded× coded_ℕ table_id_coded)))
+    (λ h. (h.worker, (h.tag, (h.address, h.home))))
+    (λ t. record { worker = t.0; tag = t.1.0; address = t.1.1.0; home = t.1.1.1 })
+    (λ _. refl)
 
 -- the facts with which a hold is issued: the worker, the tag and the address
 abbrev pub hold_facts : ℕ → ℕ → ℕ → List ℕ
@@ -59,7 +63,8 @@ IsStepBy old new next = (m : RecordMap) (addresses : List ℕ) → StandsFor m a
 -- for whatever map the heap stood for, the name leads to a new record with this value at this address
 abbrev pub IsNew : HeapView → ℕ → List ℕ → ℕ → HeapView → Type 0
 IsNew old name value b new =
-    (m : RecordMap) (addresses : List ℕ) → StandsFor m addresses old.heap → StandsFor (put_step m name value (id_of m name)).map (addresses ++ b ∷ []) new.heap
+    (m : RecordMap) (addresses : List ℕ) → StandsFor m addresses old.heap →
+    StandsFor (put_step m name value (id_of m name)).map (addresses ++ b ∷ []) new.heap
 
 -- the buffer is of these cells, and constructed
 pub record IsBlankBuffer (cells : List TableId) (buf : BufState Object) : Type 0 where

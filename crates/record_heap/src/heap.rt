@@ -33,13 +33,13 @@ pub struct RecordHeap {
 
 impl Model for RecordHeap {
     ghost use Rattle.record_heap.specs.View.{HeapView};
-    ghost use Rattle.record_heap.specs.Kept.{IsKept};
+    ghost use Rattle.record_heap.specs.Kept.{IsHeapKept};
 
     ghost Value = { HeapView };
 
     ghost view = { λ h. h.parts };
 
-    ghost invariant = { λ h. IsKept h.parts.heap h.present h.records h.leftovers };
+    ghost invariant = { λ h. IsHeapKept h.parts.heap h.present h.records h.leftovers };
 }
 
 impl RecordHeap {
@@ -53,7 +53,9 @@ impl RecordHeap {
     ) -> Result<RecordHeap, AllocError>
         requires buffers { (buffers ≡ length home.cells) × (buffers ≤ 65536) }
         requires workers { (1 ≤ workers) × (workers ≤ 16) }
-        ensures heap { IfOk result (λ h. (h.heap ≡ record { names = replicate names None; tags = replicate (8 * workers) None; objects = replicate buffers None }) × (h.home ≡ home)) }
+        ensures heap { IfOk result (λ h. (h.heap ≡
+            record { names = replicate names None; tags = replicate (8 * workers) None; objects = replicate buffers None }) ×
+            (h.home ≡ home)) }
         ensures holds { IfOk result (λ h. length h.holds ≡ 8 * workers) }
         ensures stands { IfOk result (λ h. StandsFor (no_records names workers) [] h.heap) }
     {

@@ -106,7 +106,11 @@ impl Tags {
             worker,
             tag,
             address,
-            slip: stub.issue([u64::from(worker), u64::from(tag.number()), u64::from(address)]),
+            slip: stub.issue([
+                u64::from(worker),
+                u64::from(tag.number()),
+                u64::from(address),
+            ]),
         }
     }
 

@@ -33,7 +33,11 @@ impl Model for Parts {
 
     ghost Value = { HeapView };
 
-    ghost view = { λ p. record { heap = record { names = p.names.items; tags = p.tags.tags; objects = p.shelf.objects }; home = p.shelf.home; holds = p.tags.stubs } };
+    ghost view = { λ p. record {
+      heap = record { names = p.names.items; tags = p.tags.tags; objects = p.shelf.objects };
+      home = p.shelf.home;
+      holds = p.tags.stubs;
+    } };
 }
 
 impl Parts {
@@ -47,7 +51,8 @@ impl Parts {
     ) -> Result<Parts, AllocError>
         requires buffers { (buffers ≡ length home.cells) × (buffers ≤ 65536) }
         requires workers { workers ≤ 16 }
-        ensures heap { IfOk result (λ p. p.heap ≡ record { names = replicate names None; tags = replicate (8 * workers) None; objects = replicate buffers None }) }
+        ensures heap { IfOk result (λ p. p.heap ≡
+            record { names = replicate names None; tags = replicate (8 * workers) None; objects = replicate buffers None }) }
         ensures home { IfOk result (λ p. p.home ≡ home) }
         ensures holds { IfOk result (λ p. length p.holds ≡ 8 * workers) }
     {
@@ -70,7 +75,8 @@ impl Parts {
     /// The least name that is present, from this one on.
     pub fn least_name(&self, from: u32) -> Option<u32>
         requires { length self.now.heap.names < 2 ^ 32 }
-        ensures least { result ≡ least_below (length self.now.heap.names) (λ name. nat_le from name && is_some (address_of self.now.heap name)) }
+        ensures least { result ≡ least_below (length self.now.heap.names) (λ name. nat_le from name
+            && is_some (address_of self.now.heap name)) }
         ensures found { IfSome result (λ name. (name < length self.now.heap.names) × (is_some (address_of self.now.heap name) ≡ true)) }
     {
         law_order();
@@ -267,7 +273,8 @@ impl Parts {
     /// Moves the object at the address into the buffer, and lets its names lead there. The old buffer comes back.
     pub fn relocate(&mut self, from: u32, to: Buf<RecordKind>) -> Buf<RecordKind>
         requires object { is_some (object_at self.old.heap from) ≡ true }
-        requires names { (name : ℕ) → list_any (λ other. other == name) (names_in self.old.heap from) ≡ is_the (address_of self.old.heap name) from }
+        requires names { (name : ℕ) → list_any (λ other. other == name) (names_in self.old.heap from) ≡
+            is_the (address_of self.old.heap name) from }
         requires to { IsBufferOf self.old.home.cells to × (to.object ≡ blank) }
         ensures empty { object_at self.old.heap to.number ≡ None }
         ensures parts { self.new ≡ record self.old { heap = relocated self.old.heap from to.number } }
@@ -349,7 +356,8 @@ impl Parts {
 fn rename(names: &mut [Option<u32>], moved: &[u32], to: u32)
     requires { (name : ℕ) → list_any (λ other. other == name) moved.now ≡ true → name < length names.old }
     ensures size { length names.new ≡ length names.old }
-    ensures names { (name : ℕ) → slice_index_or names.new name None ≡ (if list_any (λ other. other == name) moved.now then Some to else slice_index_or names.old name None) }
+    ensures names { (name : ℕ) → slice_index_or names.new name None ≡
+        (if list_any (λ other. other == name) moved.now then Some to else slice_index_or names.old name None) }
 {
     for name in moved {
         names[*name as usize] = Some(to);

@@ -298,7 +298,11 @@ impl Bench {
     #[tactic(auto, using(crate::proofs::Benches::still, crate::proofs::Benches::renewed))]
     fn release(&mut self) -> Option<(Shown, [u32; 3])> {
         let hold = replace(&mut self.hold, None)?;
-        let facts = [hold.worker(), u32::from(hold.tag().0), hold.address()];
+        let facts = [
+            hold.worker(),
+            u32::from(hold.tag().number()),
+            hold.address(),
+        ];
         Some((show(self.heap.release(hold)), facts))
     }
 

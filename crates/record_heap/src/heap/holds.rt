@@ -15,11 +15,14 @@ impl RecordHeap {
     pub fn hold(&mut self, worker: u32, tag: Tag, name: NameId) -> (Reply, Option<Hold>)
         requires worker { (1 ≤ worker) × (8 * worker ≤ length self.old.heap.tags) }
         requires name { name.0 < length self.old.heap.names }
-        ensures reply { IsReplyBy self.old.heap (λ m. (hold_step m (tag_place worker tag) (held_at m (tag_place worker tag)) (id_of m name.0)).reply) result.0 }
-        ensures stands { IsStepBy self.old.heap self.new.heap (λ m. (hold_step m (tag_place worker tag) (held_at m (tag_place worker tag)) (id_of m name.0)).map) }
+        ensures reply { IsReplyBy self.old.heap (λ m.
+            (hold_step m (tag_place worker tag) (held_at m (tag_place worker tag)) (id_of m name.0)).reply) result.0 }
+        ensures stands { IsStepBy self.old.heap self.new.heap (λ m.
+            (hold_step m (tag_place worker tag) (held_at m (tag_place worker tag)) (id_of m name.0)).map) }
         ensures done { (result.0 ≡ Reply.Done) ↔ IsSome result.1 }
         ensures hold { IfSome result.1 (λ h. IsHoldOf self.new h × (h.worker ≡ worker) × (h.tag ≡ tag)) }
-        ensures address { IfSome result.1 (λ h. (hold_at self.new.heap (tag_place worker tag) ≡ Some h.address) × (address_of self.old.heap name.0 ≡ Some h.address)) }
+        ensures address { IfSome result.1 (λ h. (hold_at self.new.heap (tag_place worker tag) ≡ Some h.address) ×
+            (address_of self.old.heap name.0 ≡ Some h.address)) }
         ensures places { places_of self.new.heap.objects ≡ places_of self.old.heap.objects }
         ensures frame { IsFrame self.old self.new }
     {
@@ -49,8 +52,10 @@ impl RecordHeap {
     pub fn write(&mut self, hold: &mut Hold, value: Value) -> Reply
         requires { IsHoldOf self.old hold.old }
         ensures held { hold_at self.old.heap (tag_place hold.old.worker hold.old.tag) ≡ Some hold.old.address }
-        ensures reply { IsReplyBy self.old.heap (λ m. (write_step m value (held_at m (tag_place hold.old.worker hold.old.tag))).reply) result }
-        ensures stands { IsStepBy self.old.heap self.new.heap (λ m. (write_step m value (held_at m (tag_place hold.old.worker hold.old.tag))).map) }
+        ensures reply { IsReplyBy self.old.heap (λ m.
+            (write_step m value (held_at m (tag_place hold.old.worker hold.old.tag))).reply) result }
+        ensures stands { IsStepBy self.old.heap self.new.heap (λ m.
+            (write_step m value (held_at m (tag_place hold.old.worker hold.old.tag))).map) }
         ensures places { places_of self.new.heap.objects ≡ places_of self.old.heap.objects }
         ensures frame { IsFrame self.old self.new }
         ensures hold { hold.new ≡ hold.old }
@@ -66,8 +71,10 @@ impl RecordHeap {
     pub fn release(&mut self, hold: Hold) -> Reply
         requires { IsHoldOf self.old hold }
         ensures held { hold_at self.old.heap (tag_place hold.worker hold.tag) ≡ Some hold.address }
-        ensures reply { IsReplyBy self.old.heap (λ m. (drop_step m (tag_place hold.worker hold.tag) (held_at m (tag_place hold.worker hold.tag))).reply) result }
-        ensures stands { IsStepBy self.old.heap self.new.heap (λ m. (drop_step m (tag_place hold.worker hold.tag) (held_at m (tag_place hold.worker hold.tag))).map) }
+        ensures reply { IsReplyBy self.old.heap (λ m.
+            (drop_step m (tag_place hold.worker hold.tag) (held_at m (tag_place hold.worker hold.tag))).reply) result }
+        ensures stands { IsStepBy self.old.heap self.new.heap (λ m.
+            (drop_step m (tag_place hold.worker hold.tag) (held_at m (tag_place hold.worker hold.tag))).map) }
         ensures places { places_of self.new.heap.objects ≡ places_of self.old.heap.objects }
         ensures frame { IsFrame self.old self.new }
     {

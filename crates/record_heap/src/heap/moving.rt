@@ -22,7 +22,8 @@ impl RecordHeap {
         ensures answer { said_of (verdict_of result) ≡ says self.old.heap true from }
         ensures buffers { IsAnswerTo (λ o. o ≡ blank) self.old.home.cells from to.number result }
         ensures heap { self.new.heap ≡ heap_after self.old.heap from to.number (says self.old.heap true from) }
-        ensures stands { (m : RecordMap) (addresses : List ℕ) → StandsFor m addresses self.old.heap → StandsFor m (addresses_after addresses from to.number (says self.old.heap true from)) self.new.heap }
+        ensures stands { (m : RecordMap) (addresses : List ℕ) → StandsFor m addresses self.old.heap →
+            StandsFor m (addresses_after addresses from to.number (says self.old.heap true from)) self.new.heap }
         ensures empty { object_at self.old.heap to.number ≡ None }
         ensures frame { IsFrame self.old self.new }
     {
@@ -43,10 +44,12 @@ impl RecordHeap {
     /// Takes the leftover with the least address, if there is one.
     pub fn take_leftover(&mut self) -> Option<Buf<RecordKind>>
         ensures none { IfNone result (least_left_in self.old.heap ≡ None) }
-        ensures buf { IfSome result (λ buf. (least_left_in self.old.heap ≡ Some buf.number) × (buf.object ≡ blank) × IsBufferOf self.old.home.cells buf) }
+        ensures buf { IfSome result (λ buf. (least_left_in self.old.heap ≡ Some buf.number) × (buf.object ≡ blank) ×
+            IsBufferOf self.old.home.cells buf) }
         ensures stays { IfNone result (self.new ≡ self.old) }
         ensures stands { (m : RecordMap) (addresses : List ℕ) → StandsFor m addresses self.old.heap → StandsFor m addresses self.new.heap }
-        ensures places { IfSome result (λ buf. places_of self.new.heap.objects ≡ slice_set (places_of self.old.heap.objects) buf.number false) }
+        ensures places { IfSome result (λ buf. places_of self.new.heap.objects ≡
+            slice_set (places_of self.old.heap.objects) buf.number false) }
         ensures frame { IsFrame self.old self.new }
     {
         let b = self.first_leftover()?;

@@ -4,6 +4,7 @@ use crate::RecordHeap;
 use kmem_buf::Home;
 use kmem_text::{Tag, Value};
 use std::test::Fail;
+use std::thread::{Threads, join};
 
 // A record is written and read by two names and a tag.
 #[test]
@@ -140,5 +141,34 @@ fn idle_at_first(rt: HostRuntime) -> Result<(), Fail> {
     let home = Home::of(&row.cells, &Vec::new(rt.alloc()));
     let heap = RecordHeap::create(rt.alloc(), home, 16, 4, 2)?;
     assert_eq!(rt; show(heap.idle(1, Tag::new(0))), Shown::Idle);
+    Ok(())
+}
+
+// Another thread reads by the hold. What it has are a heap, buffers and a hold.
+fn read_elsewhere<R: Threads>(rt: &R, mut bench: Bench) -> (Bench, Option<Shown>) {
+    let (back, ()) = join(
+        rt,
+        move || {
+            let reply = bench.read();
+            (bench, reply)
+        },
+        || (),
+    );
+    back
+}
+
+#[test]
+fn a_heap_and_a_hold_cross_threads(rt: HostRuntime) -> Result<(), Fail> {
+    let mut bench = Bench::create(rt.alloc())?;
+    let x = Value::from_bytes(b"x").ok_or("a value")?;
+    assert_eq!(rt;
+        [bench.put(5, x), bench.hold(7, 5)],
+        [Shown::New, Shown::Done]
+    );
+    let (bench, reply) = read_elsewhere(&rt, bench);
+    assert_eq!(rt;
+        (reply, bench.get(5)),
+        (Some(Shown::Val(b'x')), Shown::Val(b'x'))
+    );
     Ok(())
 }

@@ -9,7 +9,7 @@ use Rattle.kmem_model.specs.CacheEnter.{enter}
 use Rattle.kmem_model.specs.RecordStep.{step}
 use Rattle.kmem_model.specs.declared.cache_entry.CacheEntry.TheVariants.{Free}
 use Rattle.kmem_model.specs.One.{one_step}
-use Rattle.consolidator.proofs.Bench.{del_in_range, set_up_after}
+use Rattle.consolidator.proofs.Bench.{set_up_after}
 use Rattle.consolidator.proofs.tests.Bench.del.Goals as goal
 
 pub invariant_of-self : goal.invariant_of-self
@@ -21,11 +21,10 @@ invariant_of-self c =
     subst (λ (o : Option (BufState Object)). IfSome o (λ buf. IsHandedOut heap c.args.name buf c.del-reply.new.self)) c.in-Some.is c.del-reply.ensures.out in
     set_up_after c.self.inside.cache heap was c.free.new.self c.del-reply.new.self c.del-reply.ensures.frame c.free.ensures.home
     (one_step s 1 (Del (record { 0 = c.args.name }))) (step s.map 1 (Del (record { 0 = c.args.name }))).reply
-    (c.law_one_step.ensures.ended s heap.heap c.del-reply.new.self.heap c.free.new.self.state 1 (record { 0 = c.args.name }) c.in-Some.buf.number was.stands
-    (del_in_range c.self.inside.cache heap was c.args.name c.requires) out.address
-    (out.ended s.map s.addresses was.stands.valid was.stands.stands)
+    (c.law_one_step.ensures.ended s heap.heap c.del-reply.new.self.heap c.free.new.self.state 1 (record { 0 = c.args.name }) c.in-Some.buf.number was.stands out.address
+    (out.ended s.map s.addresses was.stands.stands)
     (subst (λ (t : CacheState). enter t (Free c.in-Some.buf.number) ≡ Some c.free.new.self.state) was.same c.free.ensures.entry)
-    (c.del-reply.ensures.stands s.map s.addresses was.stands.valid was.stands.stands)
+    (c.del-reply.ensures.stands s.map s.addresses was.stands.stands)
     out.places)
 
 pub invariant_of-self-in_default : goal.invariant_of-self-in_default
@@ -37,9 +36,8 @@ invariant_of-self-in_default c =
     subst (λ (o : Option (BufState Object)). IfNone o (IsKeptOn heap c.args.name c.del-reply.new.self)) c.in_default.is c.del-reply.ensures.kept in
     let left =
     c.law_one_step.ensures.kept s heap.heap c.del-reply.new.self.heap 1 (record { 0 = c.args.name }) was.stands
-    (del_in_range c.self.inside.cache heap was c.args.name c.requires)
-    (kept.lives s.map s.addresses was.stands.valid was.stands.stands)
-    (c.del-reply.ensures.stands s.map s.addresses was.stands.valid was.stands.stands)
+    (kept.lives s.map s.addresses was.stands.stands)
+    (c.del-reply.ensures.stands s.map s.addresses was.stands.stands)
     kept.places in
     set_up_after c.self.inside.cache heap was c.self.inside.cache c.del-reply.new.self c.del-reply.ensures.frame refl
     (one_step s 1 (Del (record { 0 = c.args.name }))) (step s.map 1 (Del (record { 0 = c.args.name }))).reply

@@ -1,7 +1,7 @@
 use Rattle.std.proofs.Common.{◌≡◌, ℕ, ◌-◌, ◌==◌, Option, None, [], ◌∷◌, sym, ap, ap₂, ◌∙◌, subst}
 use Rattle.kmem_model.specs.Heap.{Object, HeapState, StandsFor, address_of, object_at, has_record, blank}
 use Rattle.record_heap.specs.View.{HeapView}
-use Rattle.record_heap.specs.Kept.{IsKept}
+use Rattle.record_heap.specs.Kept.{IsHeapKept}
 use Rattle.std.specs.List.{list_any}
 use Rattle.std.specs.Option.{option_map_or}
 use Rattle.kmem_buf.specs.Buffers.{BufState}
@@ -42,7 +42,7 @@ invariant_of-self c =
     let it = yes_is (object_at h c.args.from) says in
     let is : c.relocate.new.self.heap ≡ relocated h c.args.from c.args.to.number =
     ap (λ (v : HeapView). v.heap) c.relocate.ensures.parts ∙ ap₂ (λ (v : HeapView) (b : BufState Object). relocated v.heap c.args.from b.number) parts c.show_empty-to.ensures.buf in
-    subst (λ (k : HeapState). IsKept k f.present f.records f.leftovers) (sym is)
+    subst (λ (k : HeapState). IsHeapKept k f.present f.records f.leftovers) (sym is)
     (moved_kept h c.args.from c.args.to.number it.o it.is c.show_empty-to.ensures.empty c.show_empty-to.ensures.range
     f.present f.records f.leftovers c.self.invariant it.free (valued_used h c.args.from it.o (c.self.invariant.tied.objects c.args.from it.o it.is) it.has) (ap has_record it.is ∙ it.has))
 
@@ -55,7 +55,7 @@ invariant_of-self-in-DontNeed c =
     ap said_of (sym c.in-DontNeed.is) ∙ (c.verdict.ensures ∙ ap (λ (v : HeapView). answer_about (object_at v.heap c.args.from)) parts) in
     let is : c.take_out.new.self.heap ≡ with_object h c.args.from None =
     ap (λ (v : HeapView). v.heap) c.take_out.ensures.parts ∙ ap (λ (v : HeapView). with_object v.heap c.args.from None) parts in
-    subst (λ (k : HeapState). IsKept k f.present f.records (f.leftovers - 1)) (sym is)
+    subst (λ (k : HeapState). IsHeapKept k f.present f.records (f.leftovers - 1)) (sym is)
     (without_kept h f.present f.records f.leftovers c.self.invariant c.args.from (need_is (object_at h c.args.from) says))
 
 pub returns-in-Yes-clause-stands : goal.returns-in-Yes-clause-stands

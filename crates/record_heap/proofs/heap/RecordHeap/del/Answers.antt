@@ -2,7 +2,7 @@ use Rattle.std.proofs.Common.{◌≡◌, ℕ, ◌-◌, Bool, true, false, Some, 
 use Rattle.kmem_model.specs.Records.{id_of}
 use Rattle.kmem_model.specs.Heap.{HeapState, IsPaired, address_of, object_at, places_of}
 use Rattle.record_heap.specs.View.{HeapView}
-use Rattle.record_heap.specs.Kept.{IsKept}
+use Rattle.record_heap.specs.Kept.{IsHeapKept}
 use Rattle.std.proofs.lemmas.List.{map-set}
 use Rattle.kmem_buf.specs.Homes.{IsBufferOf}
 use Rattle.kmem_model.specs.RecordStep.{del_step}
@@ -40,7 +40,7 @@ invariant_of-self c =
     let used : is_unused (without_back n it.o) ≡ false =
     unused_is (object_at c.unlink.new.self.heap b) (without_back n it.o) c.is_unused.result (ap (λ (v : HeapView). object_at v.heap b) c.unlink.ensures ∙ object_left h f.present f.records f.leftovers c.self.invariant b it n leads) c.is_unused.ensures
     ∙ c.if-not-is_unused.true in
-    subst (λ (k : HeapState). IsKept k (f.present - 1) f.records f.leftovers) (sym (ap (λ (v : HeapView). v.heap) c.unlink.ensures))
+    subst (λ (k : HeapState). IsHeapKept k (f.present - 1) f.records f.leftovers) (sym (ap (λ (v : HeapView). v.heap) c.unlink.ensures))
     (unlinked_kept h f.present f.records f.leftovers c.self.invariant b it n leads used)
 
 pub returns-then-not-is_unused-clause-reply : goal.returns-then-not-is_unused-clause-reply
@@ -63,18 +63,18 @@ returns-then-not-is_unused-clause-stands c = λ m a stands.
     record {
       valid = c.law_step.ensures.del m c.args.name.0 valid;
       paired =
-        let f = c.self.inside in
-        let h = f.parts.heap in
-        let b = c.in-Some.b in
-        let n = c.args.name.0 in
-        let leads : address_of h n ≡ Some b = sym c.address.ensures ∙ c.in-Some.is in
-        let it = of_name h f.present f.records f.leftovers c.self.invariant n b leads in
-        let used : is_unused (without_back n it.o) ≡ false =
-        unused_is (object_at c.unlink.new.self.heap b) (without_back n it.o) c.is_unused.result (ap (λ (v : HeapView). object_at v.heap b) c.unlink.ensures ∙ object_left h f.present f.records f.leftovers c.self.invariant b it n leads) c.is_unused.ensures
-        ∙ c.if-not-is_unused.true in
-        let now : IsPaired m a h = subst (λ (v : HeapView). IsPaired m a v.heap) (sym c.self.view_is) s in
-        subst (λ (k : HeapState). IsPaired (del_step m n (id_of m n)).map a k) (sym (ap (λ (v : HeapView). v.heap) c.unlink.ensures))
-        (unlinked_stands h f.present f.records f.leftovers c.self.invariant b it n leads m a valid now used)
+          let f = c.self.inside in
+          let h = f.parts.heap in
+          let b = c.in-Some.b in
+          let n = c.args.name.0 in
+          let leads : address_of h n ≡ Some b = sym c.address.ensures ∙ c.in-Some.is in
+          let it = of_name h f.present f.records f.leftovers c.self.invariant n b leads in
+          let used : is_unused (without_back n it.o) ≡ false =
+          unused_is (object_at c.unlink.new.self.heap b) (without_back n it.o) c.is_unused.result (ap (λ (v : HeapView). object_at v.heap b) c.unlink.ensures ∙ object_left h f.present f.records f.leftovers c.self.invariant b it n leads) c.is_unused.ensures
+          ∙ c.if-not-is_unused.true in
+          let now : IsPaired m a h = subst (λ (v : HeapView). IsPaired m a v.heap) (sym c.self.view_is) s in
+          subst (λ (k : HeapState). IsPaired (del_step m n (id_of m n)).map a k) (sym (ap (λ (v : HeapView). v.heap) c.unlink.ensures))
+          (unlinked_stands h f.present f.records f.leftovers c.self.invariant b it n leads m a valid now used);
     }
 
 pub returns-then-not-is_unused-clause-kept : goal.returns-then-not-is_unused-clause-kept
@@ -118,7 +118,7 @@ invariant_of-self-2 c =
     let unused : is_unused (without_back n it.o) ≡ true =
     unused_is (object_at c.unlink.new.self.heap b) (without_back n it.o) c.is_unused.result (ap (λ (v : HeapView). object_at v.heap b) c.unlink.ensures ∙ object_left h f.present f.records f.leftovers c.self.invariant b it n leads) c.is_unused.ensures
     ∙ c.if-not-is_unused.false in
-    subst (λ (k : HeapState). IsKept k (f.present - 1) (f.records - 1) f.leftovers)
+    subst (λ (k : HeapState). IsHeapKept k (f.present - 1) (f.records - 1) f.leftovers)
     (sym (ap (λ (v : HeapView). v.heap) c.end.ensures.parts ∙ ap (λ (v : HeapView). with_object v.heap b None) c.unlink.ensures))
     (ended_kept h f.present f.records f.leftovers c.self.invariant b it n leads unused)
 
@@ -142,19 +142,19 @@ returns-clause-stands c = λ m a stands.
     record {
       valid = c.law_step.ensures.del m c.args.name.0 valid;
       paired =
-        let f = c.self.inside in
-        let h = f.parts.heap in
-        let b = c.in-Some.b in
-        let n = c.args.name.0 in
-        let leads : address_of h n ≡ Some b = sym c.address.ensures ∙ c.in-Some.is in
-        let it = of_name h f.present f.records f.leftovers c.self.invariant n b leads in
-        let unused : is_unused (without_back n it.o) ≡ true =
-        unused_is (object_at c.unlink.new.self.heap b) (without_back n it.o) c.is_unused.result (ap (λ (v : HeapView). object_at v.heap b) c.unlink.ensures ∙ object_left h f.present f.records f.leftovers c.self.invariant b it n leads) c.is_unused.ensures
-        ∙ c.if-not-is_unused.false in
-        let now : IsPaired m a h = subst (λ (v : HeapView). IsPaired m a v.heap) (sym c.self.view_is) s in
-        subst (λ (k : HeapState). IsPaired (del_step m n (id_of m n)).map a k)
-        (sym (ap (λ (v : HeapView). v.heap) c.end.ensures.parts ∙ ap (λ (v : HeapView). with_object v.heap b None) c.unlink.ensures))
-        (ended_stands h f.present f.records f.leftovers c.self.invariant b it n leads m a valid now unused)
+          let f = c.self.inside in
+          let h = f.parts.heap in
+          let b = c.in-Some.b in
+          let n = c.args.name.0 in
+          let leads : address_of h n ≡ Some b = sym c.address.ensures ∙ c.in-Some.is in
+          let it = of_name h f.present f.records f.leftovers c.self.invariant n b leads in
+          let unused : is_unused (without_back n it.o) ≡ true =
+          unused_is (object_at c.unlink.new.self.heap b) (without_back n it.o) c.is_unused.result (ap (λ (v : HeapView). object_at v.heap b) c.unlink.ensures ∙ object_left h f.present f.records f.leftovers c.self.invariant b it n leads) c.is_unused.ensures
+          ∙ c.if-not-is_unused.false in
+          let now : IsPaired m a h = subst (λ (v : HeapView). IsPaired m a v.heap) (sym c.self.view_is) s in
+          subst (λ (k : HeapState). IsPaired (del_step m n (id_of m n)).map a k)
+          (sym (ap (λ (v : HeapView). v.heap) c.end.ensures.parts ∙ ap (λ (v : HeapView). with_object v.heap b None) c.unlink.ensures))
+          (ended_stands h f.present f.records f.leftovers c.self.invariant b it n leads m a valid now unused);
     }
 
 pub returns-clause-out : goal.returns-clause-out

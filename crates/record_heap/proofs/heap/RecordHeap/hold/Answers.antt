@@ -2,7 +2,7 @@ use Rattle.std.proofs.Common.{◌≡◌, ◌<◌, Some, None, length, sym, ap, �
 use Rattle.kmem_model.specs.Records.{id_of, held_at, tag_place}
 use Rattle.kmem_model.specs.Heap.{HeapState, IsPaired, address_of, hold_at, places_of}
 use Rattle.record_heap.specs.View.{HeapView}
-use Rattle.record_heap.specs.Kept.{IsKept}
+use Rattle.record_heap.specs.Kept.{IsHeapKept}
 use Rattle.kmem_model.specs.RecordStep.{hold_step}
 use Rattle.record_heap.specs.Objects.{held_more}
 use Rattle.record_heap.proofs.Steps.{of_name, places_changed, none_from}
@@ -26,7 +26,7 @@ invariant_of-self c =
     let free : hold_at h place ≡ None = none_from (hold_at h place) (sym c.is_used.ensures.used ∙ c.if-is_used.false) in
     let low : place < length h.tags = omega (arith, c.requires.worker, c.is_used.ensures.low, ap (λ (v : HeapView). length v.heap.tags) c.self.view_is) in
     let it = of_name h f.present f.records f.leftovers c.self.invariant c.args.name.0 c.in-Some.b leads in
-    subst (λ (k : HeapState). IsKept k f.present f.records f.leftovers) (sym (ap (λ (v : HeapView). v.heap) c.hold.ensures.parts))
+    subst (λ (k : HeapState). IsHeapKept k f.present f.records f.leftovers) (sym (ap (λ (v : HeapView). v.heap) c.hold.ensures.parts))
     (tagged_kept h f.present f.records f.leftovers c.self.invariant c.in-Some.b it place low free)
 
 pub returns-clause-stands : goal.returns-clause-stands
@@ -36,15 +36,15 @@ returns-clause-stands c = λ m a stands.
     record {
       valid = c.law_step.ensures.hold m (tag_place c.args.worker c.args.tag) c.args.name.0 valid (omega (arith, c.requires.worker, c.is_used.ensures.low, tags_size m a c.args.self.now.heap s));
       paired =
-        let f = c.self.inside in
-        let h = f.parts.heap in
-        let place = tag_place c.args.worker c.args.tag in
-        let leads : address_of h c.args.name.0 ≡ Some c.in-Some.b = sym c.address.ensures ∙ c.in-Some.is in
-        let free : hold_at h place ≡ None = none_from (hold_at h place) (sym c.is_used.ensures.used ∙ c.if-is_used.false) in
-        let low : place < length h.tags = omega (arith, c.requires.worker, c.is_used.ensures.low, ap (λ (v : HeapView). length v.heap.tags) c.self.view_is) in
-        let it = of_name h f.present f.records f.leftovers c.self.invariant c.args.name.0 c.in-Some.b leads in
-        subst (λ (k : HeapState). IsPaired (hold_step m place (held_at m place) (id_of m c.args.name.0)).map a k) (sym (ap (λ (v : HeapView). v.heap) c.hold.ensures.parts))
-        (tagged_stands h f.present f.records f.leftovers c.self.invariant c.in-Some.b it place low free m a valid (subst (λ (v : HeapView). IsPaired m a v.heap) (sym c.self.view_is) s) c.args.name.0 leads).1
+          let f = c.self.inside in
+          let h = f.parts.heap in
+          let place = tag_place c.args.worker c.args.tag in
+          let leads : address_of h c.args.name.0 ≡ Some c.in-Some.b = sym c.address.ensures ∙ c.in-Some.is in
+          let free : hold_at h place ≡ None = none_from (hold_at h place) (sym c.is_used.ensures.used ∙ c.if-is_used.false) in
+          let low : place < length h.tags = omega (arith, c.requires.worker, c.is_used.ensures.low, ap (λ (v : HeapView). length v.heap.tags) c.self.view_is) in
+          let it = of_name h f.present f.records f.leftovers c.self.invariant c.args.name.0 c.in-Some.b leads in
+          subst (λ (k : HeapState). IsPaired (hold_step m place (held_at m place) (id_of m c.args.name.0)).map a k) (sym (ap (λ (v : HeapView). v.heap) c.hold.ensures.parts))
+          (tagged_stands h f.present f.records f.leftovers c.self.invariant c.in-Some.b it place low free m a valid (subst (λ (v : HeapView). IsPaired m a v.heap) (sym c.self.view_is) s) c.args.name.0 leads).1;
     }
 
 pub returns-clause-places : goal.returns-clause-places

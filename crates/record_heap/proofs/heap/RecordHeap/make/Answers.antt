@@ -3,7 +3,7 @@ use Rattle.std.proofs.lemmas.List.Sums.{count_by-le-length}
 use Rattle.kmem_model.specs.Records.{id_of}
 use Rattle.kmem_model.specs.Heap.{Object, HeapState, IsPaired, address_of, places_of, has_record, is_leftover}
 use Rattle.record_heap.specs.View.{HeapView}
-use Rattle.record_heap.specs.Kept.{IsKept}
+use Rattle.record_heap.specs.Kept.{IsHeapKept}
 use Rattle.std.proofs.lemmas.List.{map-set}
 use Rattle.kmem_model.specs.RecordStep.{put_step}
 use Rattle.record_heap.specs.Changes.{made, first_object}
@@ -31,7 +31,7 @@ invariant_of-self c =
     let n = c.args.name.0 in
     let below : n < length h.names = omega (arith, c.requires.name, ap (λ (v : HeapView). length v.heap.names) c.self.view_is) in
     let was : address_of h n ≡ None = ap (λ (v : HeapView). address_of v.heap n) c.self.view_is ∙ c.requires.absent in
-    subst (λ (k : HeapState). IsKept k (f.present + 1) (f.records + 1) f.leftovers) (sym (ap (λ (v : HeapView). v.heap) c.make.ensures.parts))
+    subst (λ (k : HeapState). IsHeapKept k (f.present + 1) (f.records + 1) f.leftovers) (sym (ap (λ (v : HeapView). v.heap) c.make.ensures.parts))
     (made_kept h f.present f.records f.leftovers c.self.invariant n b c.args.value below c.make.ensures.range was (empty_free h f.present f.records f.leftovers c.self.invariant b c.make.ensures.empty) (ap has_record c.make.ensures.empty) f.leftovers (omega (arith, ap (λ (x : Option Object). one_if (is_leftover x)) c.make.ensures.empty)))
 
 pub returns-clause-new : goal.returns-clause-new
@@ -41,15 +41,15 @@ returns-clause-new c = λ m a stands.
     record {
       valid = c.law_step.ensures.put m c.args.name.0 c.args.value valid (omega (arith, c.requires.name, names_size m a c.args.self.now.heap s));
       paired =
-        let f = c.self.inside in
-        let h = f.parts.heap in
-        let b = c.args.buf.number in
-        let n = c.args.name.0 in
-        let below : n < length h.names = omega (arith, c.requires.name, ap (λ (v : HeapView). length v.heap.names) c.self.view_is) in
-        let was : address_of h n ≡ None = ap (λ (v : HeapView). address_of v.heap n) c.self.view_is ∙ c.requires.absent in
-        subst (λ (k : HeapState). IsPaired (put_step m n c.args.value (id_of m n)).map (a ++ b ∷ []) k) (sym (ap (λ (v : HeapView). v.heap) c.make.ensures.parts))
-        (made_stands h f.present f.records f.leftovers c.self.invariant n b c.args.value below c.make.ensures.range was (empty_free h f.present f.records f.leftovers c.self.invariant b c.make.ensures.empty) (ap has_record c.make.ensures.empty) m a valid
-        (subst (λ (v : HeapView). IsPaired m a v.heap) (sym c.self.view_is) s))
+          let f = c.self.inside in
+          let h = f.parts.heap in
+          let b = c.args.buf.number in
+          let n = c.args.name.0 in
+          let below : n < length h.names = omega (arith, c.requires.name, ap (λ (v : HeapView). length v.heap.names) c.self.view_is) in
+          let was : address_of h n ≡ None = ap (λ (v : HeapView). address_of v.heap n) c.self.view_is ∙ c.requires.absent in
+          subst (λ (k : HeapState). IsPaired (put_step m n c.args.value (id_of m n)).map (a ++ b ∷ []) k) (sym (ap (λ (v : HeapView). v.heap) c.make.ensures.parts))
+          (made_stands h f.present f.records f.leftovers c.self.invariant n b c.args.value below c.make.ensures.range was (empty_free h f.present f.records f.leftovers c.self.invariant b c.make.ensures.empty) (ap has_record c.make.ensures.empty) m a valid
+          (subst (λ (v : HeapView). IsPaired m a v.heap) (sym c.self.view_is) s));
     }
 
 pub returns-clause-places : goal.returns-clause-places

@@ -2,7 +2,7 @@ use Rattle.std.proofs.Common.{◌≡◌, ℕ, ◌+◌, ◌-◌, true, false, Som
 use Rattle.kmem_model.specs.Records.{held_at, tag_place}
 use Rattle.kmem_model.specs.Heap.{HeapState, IsPaired, object_at, places_of, blank}
 use Rattle.record_heap.specs.View.{HeapView}
-use Rattle.record_heap.specs.Kept.{IsKept}
+use Rattle.record_heap.specs.Kept.{IsHeapKept}
 use Rattle.kmem_model.specs.RecordStep.{drop_step}
 use Rattle.std.proofs.Math.Seq.{map-set_same}
 use Rattle.record_heap.specs.Objects.{held_less, is_unused}
@@ -43,7 +43,7 @@ invariant_of-self c =
     unused_is (object_at c.hold_less.new.self.heap c.end_hold-b.result) (held_less it.o) c.is_unused.result
     (ap₂ (λ (k : HeapState) (i : ℕ). object_at k i) less c.end_hold-b.ensures.address ∙ object_less h f.present f.records f.leftovers c.self.invariant hold.address it place c.end_hold-b.ensures.held) c.is_unused.ensures
     ∙ c.if-is_unused.true in
-    subst (λ (k : HeapState). IsKept k f.present (f.records - 1) (f.leftovers + 1))
+    subst (λ (k : HeapState). IsHeapKept k f.present (f.records - 1) (f.leftovers + 1))
     (sym (ap (λ (v : HeapView). v.heap) c.leave.ensures ∙ ap₂ (λ (k : HeapState) (i : ℕ). with_object k i (Some blank)) less c.end_hold-b.ensures.address))
     (left_kept h f.present f.records f.leftovers c.self.invariant hold.address it place c.end_hold-b.ensures.held unused)
 
@@ -60,7 +60,7 @@ invariant_of-self-else-is_unused c =
     unused_is (object_at c.hold_less.new.self.heap c.end_hold-b.result) (held_less it.o) c.is_unused.result
     (ap₂ (λ (k : HeapState) (i : ℕ). object_at k i) less c.end_hold-b.ensures.address ∙ object_less h f.present f.records f.leftovers c.self.invariant hold.address it place c.end_hold-b.ensures.held) c.is_unused.ensures
     ∙ c.if-is_unused.false in
-    subst (λ (k : HeapState). IsKept k f.present f.records f.leftovers) (sym less)
+    subst (λ (k : HeapState). IsHeapKept k f.present f.records f.leftovers) (sym less)
     (untagged_kept h f.present f.records f.leftovers c.self.invariant hold.address it place c.end_hold-b.ensures.held used)
 
 pub returns-clause-stands : goal.returns-clause-stands
@@ -70,28 +70,28 @@ returns-clause-stands c = λ m a stands.
     record {
       valid = c.law_step.ensures.drop m (tag_place c.args.hold.worker c.args.hold.tag) valid;
       paired =
-        let f = c.self.inside in
-        let h = f.parts.heap in
-        let hold = c.args.hold in
-        let place = tag_place hold.worker hold.tag in
-        let it = of_tag h f.present f.records f.leftovers c.self.invariant place hold.address c.end_hold-b.ensures.held in
-        let less : c.hold_less.new.self.heap ≡ untagged h place hold.address =
-        ap (λ (v : HeapView). v.heap) c.hold_less.ensures ∙ ap₂ (λ (v : HeapView) (i : ℕ). changed_at v.heap i held_less) c.end_hold-b.ensures.parts c.end_hold-b.ensures.address in
-        let told =
-        unused_is (object_at c.hold_less.new.self.heap c.end_hold-b.result) (held_less it.o) c.is_unused.result
-        (ap₂ (λ (k : HeapState) (i : ℕ). object_at k i) less c.end_hold-b.ensures.address ∙ object_less h f.present f.records f.leftovers c.self.invariant hold.address it place c.end_hold-b.ensures.held) c.is_unused.ensures in
-        let now : IsPaired m a h = subst (λ (v : HeapView). IsPaired m a v.heap) (sym c.self.view_is) s in
-        elim c.if-is_unused.branch [
-          | then-is_unused w ↦
-              subst (λ (v : HeapView). IsPaired (drop_step m place (held_at m place)).map a v.heap) (sym w.self-is)
-              (subst (λ (k : HeapState). IsPaired (drop_step m place (held_at m place)).map a k)
-              (sym (ap (λ (v : HeapView). v.heap) w.leave.ensures ∙ ap₂ (λ (k : HeapState) (i : ℕ). with_object k i (Some blank)) less c.end_hold-b.ensures.address))
-              (left_stands h f.present f.records f.leftovers c.self.invariant hold.address it place c.end_hold-b.ensures.held m a valid now (told ∙ w.if-is_unused.true)))
-          | else-is_unused w ↦
-              subst (λ (v : HeapView). IsPaired (drop_step m place (held_at m place)).map a v.heap) (sym w.self-is)
-              (subst (λ (k : HeapState). IsPaired (drop_step m place (held_at m place)).map a k) (sym less)
-              (untagged_stands h f.present f.records f.leftovers c.self.invariant hold.address it place c.end_hold-b.ensures.held m a valid now (told ∙ w.if-is_unused.false)))
-        ]
+          let f = c.self.inside in
+          let h = f.parts.heap in
+          let hold = c.args.hold in
+          let place = tag_place hold.worker hold.tag in
+          let it = of_tag h f.present f.records f.leftovers c.self.invariant place hold.address c.end_hold-b.ensures.held in
+          let less : c.hold_less.new.self.heap ≡ untagged h place hold.address =
+          ap (λ (v : HeapView). v.heap) c.hold_less.ensures ∙ ap₂ (λ (v : HeapView) (i : ℕ). changed_at v.heap i held_less) c.end_hold-b.ensures.parts c.end_hold-b.ensures.address in
+          let told =
+          unused_is (object_at c.hold_less.new.self.heap c.end_hold-b.result) (held_less it.o) c.is_unused.result
+          (ap₂ (λ (k : HeapState) (i : ℕ). object_at k i) less c.end_hold-b.ensures.address ∙ object_less h f.present f.records f.leftovers c.self.invariant hold.address it place c.end_hold-b.ensures.held) c.is_unused.ensures in
+          let now : IsPaired m a h = subst (λ (v : HeapView). IsPaired m a v.heap) (sym c.self.view_is) s in
+          elim c.if-is_unused.branch [
+            | then-is_unused w ↦
+                subst (λ (v : HeapView). IsPaired (drop_step m place (held_at m place)).map a v.heap) (sym w.self-is)
+                (subst (λ (k : HeapState). IsPaired (drop_step m place (held_at m place)).map a k)
+                (sym (ap (λ (v : HeapView). v.heap) w.leave.ensures ∙ ap₂ (λ (k : HeapState) (i : ℕ). with_object k i (Some blank)) less c.end_hold-b.ensures.address))
+                (left_stands h f.present f.records f.leftovers c.self.invariant hold.address it place c.end_hold-b.ensures.held m a valid now (told ∙ w.if-is_unused.true)))
+            | else-is_unused w ↦
+                subst (λ (v : HeapView). IsPaired (drop_step m place (held_at m place)).map a v.heap) (sym w.self-is)
+                (subst (λ (k : HeapState). IsPaired (drop_step m place (held_at m place)).map a k) (sym less)
+                (untagged_stands h f.present f.records f.leftovers c.self.invariant hold.address it place c.end_hold-b.ensures.held m a valid now (told ∙ w.if-is_unused.false)))
+          ];
     }
 
 pub returns-clause-places : goal.returns-clause-places

@@ -2,7 +2,7 @@ use Rattle.std.proofs.Common.{arith, ◌≡◌, Option, Some, sym, ap, ap₂, �
 use Rattle.kmem_model.specs.Records.{id_of}
 use Rattle.kmem_model.specs.Heap.{Object, HeapState, IsPaired, address_of, places_of}
 use Rattle.record_heap.specs.View.{HeapView}
-use Rattle.record_heap.specs.Kept.{IsKept}
+use Rattle.record_heap.specs.Kept.{IsHeapKept}
 use Rattle.kmem_text.specs.declared.command.Reply.{Reply}
 use Rattle.kmem_text.specs.declared.command.Reply.TheVariants.{Was}
 use Rattle.kmem_model.specs.RecordStep.{put_step}
@@ -28,7 +28,7 @@ invariant_of-self c =
     let h = f.parts.heap in
     let leads : address_of h c.args.name.0 ≡ Some c.args.b = ap (λ (v : HeapView). address_of v.heap c.args.name.0) c.self.view_is ∙ c.requires in
     let it = of_name h f.present f.records f.leftovers c.self.invariant c.args.name.0 c.args.b leads in
-    subst (λ (k : HeapState). IsKept k f.present f.records f.leftovers) (sym (ap (λ (v : HeapView). v.heap) c.set_value.ensures))
+    subst (λ (k : HeapState). IsHeapKept k f.present f.records f.leftovers) (sym (ap (λ (v : HeapView). v.heap) c.set_value.ensures))
     (valued_kept h f.present f.records f.leftovers c.self.invariant c.args.b it c.args.value)
 
 pub returns-clause-put : goal.returns-clause-put
@@ -52,8 +52,8 @@ returns-clause-put c =
           record {
             valid = c.law_step.ensures.put m n c.args.value valid (omega (arith, address_below c.args.self.now.heap n b c.requires, names_size m a c.args.self.now.heap s));
             paired =
-              subst (λ (k : HeapState). IsPaired (put_step m n c.args.value (id_of m n)).map a k) (sym (ap (λ (v : HeapView). v.heap) c.set_value.ensures))
-              (put_stands h f.present f.records f.leftovers c.self.invariant b it m a valid (subst (λ (v : HeapView). IsPaired m a v.heap) (sym c.self.view_is) s) n leads c.args.value)
+                subst (λ (k : HeapState). IsPaired (put_step m n c.args.value (id_of m n)).map a k) (sym (ap (λ (v : HeapView). v.heap) c.set_value.ensures))
+                (put_stands h f.present f.records f.leftovers c.self.invariant b it m a valid (subst (λ (v : HeapView). IsPaired m a v.heap) (sym c.self.view_is) s) n leads c.args.value);
           };
       places =
           ap (λ (v : HeapView). places_of v.heap.objects) c.set_value.ensures

@@ -3,7 +3,7 @@ use Rattle.std.proofs.lemmas.List.Sums.{count_by-le-length}
 use Rattle.kmem_model.specs.Records.{id_of}
 use Rattle.kmem_model.specs.Heap.{HeapState, IsPaired, address_of, object_at, places_of, is_leftover, blank}
 use Rattle.record_heap.specs.View.{HeapView}
-use Rattle.record_heap.specs.Kept.{IsKept}
+use Rattle.record_heap.specs.Kept.{IsHeapKept}
 use Rattle.std.proofs.Math.Seq.{map-set_same}
 use Rattle.kmem_model.specs.RecordStep.{put_step}
 use Rattle.record_heap.specs.Changes.{made, first_object}
@@ -50,7 +50,7 @@ invariant_of-self c =
     let was : address_of h n ≡ None = ap (λ (v : HeapView). address_of v.heap n) c.self.view_is ∙ c.requires.absent in
     let left : is_leftover (object_at h b) ≡ true = ap (λ (v : HeapView). is_leftover (object_at v.heap b)) c.self.view_is ∙ c.requires.leftover in
     let low : b < length h.objects = read_within h.objects b blank (leftover_blank h f.present f.records f.leftovers c.self.invariant b left) in
-    subst (λ (k : HeapState). IsKept k (f.present + 1) (f.records + 1) (f.leftovers - 1)) (sym (ap (λ (v : HeapView). v.heap) c.reuse.ensures))
+    subst (λ (k : HeapState). IsHeapKept k (f.present + 1) (f.records + 1) (f.leftovers - 1)) (sym (ap (λ (v : HeapView). v.heap) c.reuse.ensures))
     (made_kept h f.present f.records f.leftovers c.self.invariant n b c.args.value below low was (left_free h f.present f.records f.leftovers c.self.invariant b left) (no_record (object_at h b) left) (f.leftovers - 1)
     (omega (arith, fewer_left h f.present f.records f.leftovers c.self.invariant b left, ap one_if left)))
 
@@ -61,17 +61,17 @@ returns-clause-new c = λ m a stands.
     record {
       valid = c.law_step.ensures.put m c.args.name.0 c.args.value valid (omega (arith, c.requires.name, names_size m a c.args.self.now.heap s));
       paired =
-        let f = c.self.inside in
-        let h = f.parts.heap in
-        let b = c.args.b in
-        let n = c.args.name.0 in
-        let below : n < length h.names = omega (arith, c.requires.name, ap (λ (v : HeapView). length v.heap.names) c.self.view_is) in
-        let was : address_of h n ≡ None = ap (λ (v : HeapView). address_of v.heap n) c.self.view_is ∙ c.requires.absent in
-        let left : is_leftover (object_at h b) ≡ true = ap (λ (v : HeapView). is_leftover (object_at v.heap b)) c.self.view_is ∙ c.requires.leftover in
-        let low : b < length h.objects = read_within h.objects b blank (leftover_blank h f.present f.records f.leftovers c.self.invariant b left) in
-        subst (λ (k : HeapState). IsPaired (put_step m n c.args.value (id_of m n)).map (a ++ b ∷ []) k) (sym (ap (λ (v : HeapView). v.heap) c.reuse.ensures))
-        (made_stands h f.present f.records f.leftovers c.self.invariant n b c.args.value below low was (left_free h f.present f.records f.leftovers c.self.invariant b left) (no_record (object_at h b) left) m a valid
-        (subst (λ (v : HeapView). IsPaired m a v.heap) (sym c.self.view_is) s))
+          let f = c.self.inside in
+          let h = f.parts.heap in
+          let b = c.args.b in
+          let n = c.args.name.0 in
+          let below : n < length h.names = omega (arith, c.requires.name, ap (λ (v : HeapView). length v.heap.names) c.self.view_is) in
+          let was : address_of h n ≡ None = ap (λ (v : HeapView). address_of v.heap n) c.self.view_is ∙ c.requires.absent in
+          let left : is_leftover (object_at h b) ≡ true = ap (λ (v : HeapView). is_leftover (object_at v.heap b)) c.self.view_is ∙ c.requires.leftover in
+          let low : b < length h.objects = read_within h.objects b blank (leftover_blank h f.present f.records f.leftovers c.self.invariant b left) in
+          subst (λ (k : HeapState). IsPaired (put_step m n c.args.value (id_of m n)).map (a ++ b ∷ []) k) (sym (ap (λ (v : HeapView). v.heap) c.reuse.ensures))
+          (made_stands h f.present f.records f.leftovers c.self.invariant n b c.args.value below low was (left_free h f.present f.records f.leftovers c.self.invariant b left) (no_record (object_at h b) left) m a valid
+          (subst (λ (v : HeapView). IsPaired m a v.heap) (sym c.self.view_is) s));
     }
 
 pub returns-clause-places : goal.returns-clause-places

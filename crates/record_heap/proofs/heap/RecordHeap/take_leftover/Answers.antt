@@ -1,7 +1,7 @@
 use Rattle.std.proofs.Common.{ℕ, ◌-◌, false, Some, None, set, is_some, sym, ap, ap₂, ◌∙◌, subst}
 use Rattle.kmem_model.specs.Heap.{HeapState, IsPaired, object_at, places_of, is_leftover, blank}
 use Rattle.record_heap.specs.View.{HeapView}
-use Rattle.record_heap.specs.Kept.{IsKept}
+use Rattle.record_heap.specs.Kept.{IsHeapKept}
 use Rattle.std.proofs.lemmas.List.{map-set}
 use Rattle.kmem_buf.specs.Homes.{IsBufferOf}
 use Rattle.record_heap.proofs.Kept.{leftover_blank, some_is}
@@ -11,7 +11,7 @@ use Rattle.record_heap.proofs.heap.RecordHeap.take_leftover.Goals as goal
 pub invariant_of-self : goal.invariant_of-self
 invariant_of-self c =
     let f = c.self.inside in
-    subst (λ (k : HeapState). IsKept k f.present f.records (f.leftovers - 1)) (sym (ap (λ (v : HeapView). v.heap) c.take_out.ensures.parts))
+    subst (λ (k : HeapState). IsHeapKept k f.present f.records (f.leftovers - 1)) (sym (ap (λ (v : HeapView). v.heap) c.take_out.ensures.parts))
     (without_kept f.parts.heap f.present f.records f.leftovers c.self.invariant c.in_ok-b.b (ap (λ (v : HeapView). is_leftover (object_at v.heap c.in_ok-b.b)) c.self.view_is ∙ c.in_ok-b.ensures.found))
 
 pub returns-clause-buf : goal.returns-clause-buf
@@ -30,9 +30,9 @@ returns-clause-stands c = λ m a stands.
     record {
       valid = valid;
       paired =
-        let f = c.self.inside in
-        subst (λ (k : HeapState). IsPaired m a k) (sym (ap (λ (v : HeapView). v.heap) c.take_out.ensures.parts))
-        (without_stands f.parts.heap f.present f.records f.leftovers c.self.invariant c.in_ok-b.b (ap (λ (v : HeapView). is_leftover (object_at v.heap c.in_ok-b.b)) c.self.view_is ∙ c.in_ok-b.ensures.found) m a (subst (λ (v : HeapView). IsPaired m a v.heap) (sym c.self.view_is) s))
+          let f = c.self.inside in
+          subst (λ (k : HeapState). IsPaired m a k) (sym (ap (λ (v : HeapView). v.heap) c.take_out.ensures.parts))
+          (without_stands f.parts.heap f.present f.records f.leftovers c.self.invariant c.in_ok-b.b (ap (λ (v : HeapView). is_leftover (object_at v.heap c.in_ok-b.b)) c.self.view_is ∙ c.in_ok-b.ensures.found) m a (subst (λ (v : HeapView). IsPaired m a v.heap) (sym c.self.view_is) s));
     }
 
 pub returns-clause-places : goal.returns-clause-places

@@ -2,7 +2,7 @@ use Rattle.std.proofs.Common.{◌≡◌, ℕ, Some, is_some, sym, ap, ap₂, ◌
 use Rattle.kmem_model.specs.Records.{held_at, tag_place}
 use Rattle.kmem_model.specs.Heap.{HeapState, IsPaired, places_of}
 use Rattle.record_heap.specs.View.{HeapView}
-use Rattle.record_heap.specs.Kept.{IsKept}
+use Rattle.record_heap.specs.Kept.{IsHeapKept}
 use Rattle.kmem_model.specs.RecordStep.{write_step}
 use Rattle.record_heap.specs.Objects.{with_value}
 use Rattle.record_heap.specs.Changes.{value_in, valued}
@@ -26,7 +26,7 @@ invariant_of-self c =
     let it = of_tag h f.present f.records f.leftovers c.self.invariant (tag_place now.worker now.tag) now.address c.meet_hold-b.ensures.held in
     let is : c.set_value.new.self.heap ≡ valued h now.address c.args.value =
     ap (λ (v : HeapView). v.heap) c.set_value.ensures ∙ ap₂ (λ (v : HeapView) (i : ℕ). valued v.heap i c.args.value) c.meet_hold-b.ensures.parts c.meet_hold-b.ensures.address in
-    subst (λ (k : HeapState). IsKept k f.present f.records f.leftovers) (sym is) (valued_kept h f.present f.records f.leftovers c.self.invariant now.address it c.args.value)
+    subst (λ (k : HeapState). IsHeapKept k f.present f.records f.leftovers) (sym is) (valued_kept h f.present f.records f.leftovers c.self.invariant now.address it c.args.value)
 
 pub returns-clause-reply : goal.returns-clause-reply
 returns-clause-reply c = λ m a stands.
@@ -47,15 +47,15 @@ returns-clause-stands c = λ m a stands.
     record {
       valid = c.law_step.ensures.write m c.args.value (held_at m (tag_place c.args.hold.now.worker c.args.hold.now.tag)) valid;
       paired =
-        let f = c.self.inside in
-        let h = f.parts.heap in
-        let now = c.args.hold.now in
-        let place = tag_place now.worker now.tag in
-        let it = of_tag h f.present f.records f.leftovers c.self.invariant place now.address c.meet_hold-b.ensures.held in
-        let is : c.set_value.new.self.heap ≡ valued h now.address c.args.value =
-        ap (λ (v : HeapView). v.heap) c.set_value.ensures ∙ ap₂ (λ (v : HeapView) (i : ℕ). valued v.heap i c.args.value) c.meet_hold-b.ensures.parts c.meet_hold-b.ensures.address in
-        subst (λ (k : HeapState). IsPaired (write_step m c.args.value (held_at m place)).map a k) (sym is)
-        (write_stands h f.present f.records f.leftovers c.self.invariant now.address it m a valid (subst (λ (v : HeapView). IsPaired m a v.heap) (sym c.self.view_is) s) place c.meet_hold-b.ensures.held c.args.value)
+          let f = c.self.inside in
+          let h = f.parts.heap in
+          let now = c.args.hold.now in
+          let place = tag_place now.worker now.tag in
+          let it = of_tag h f.present f.records f.leftovers c.self.invariant place now.address c.meet_hold-b.ensures.held in
+          let is : c.set_value.new.self.heap ≡ valued h now.address c.args.value =
+          ap (λ (v : HeapView). v.heap) c.set_value.ensures ∙ ap₂ (λ (v : HeapView) (i : ℕ). valued v.heap i c.args.value) c.meet_hold-b.ensures.parts c.meet_hold-b.ensures.address in
+          subst (λ (k : HeapState). IsPaired (write_step m c.args.value (held_at m place)).map a k) (sym is)
+          (write_stands h f.present f.records f.leftovers c.self.invariant now.address it m a valid (subst (λ (v : HeapView). IsPaired m a v.heap) (sym c.self.view_is) s) place c.meet_hold-b.ensures.held c.args.value);
     }
 
 pub returns-clause-places : goal.returns-clause-places
