@@ -140,11 +140,11 @@ fn the_text(rt: HostRuntime) -> Result<(), Fail> {
     Ok(())
 }
 
-// The first call takes all lines before those of the slabs.
+// The first call takes the line that opens the report, and the second all lines before those of the slabs.
 #[test]
 fn a_sink_that_fails(rt: HostRuntime) -> Result<(), Fail> {
     let bench = marked(rt.alloc())?;
-    let mut out = MemSink::create(rt.alloc(), 1000, 1000, &[3])?;
+    let mut out = MemSink::create(rt.alloc(), 1000, 1000, &[4])?;
     assert_eq!(rt; bench.report(&mut out), Err(Failed));
     assert!(rt; TEXT.starts_with(out.bytes()));
     assert_eq!(rt; out.bytes().len() + b"slab 1 used 2\n".len(), TEXT.len());
