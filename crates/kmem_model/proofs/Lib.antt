@@ -35,3 +35,4 @@ pub mod SettleEntries
 pub mod SettleMarks
 pub mod PrintedLists
 pub mod Printed
+pub mod SamePlaces
