@@ -3,12 +3,12 @@
 use crate::{Page, print_run};
 use kmem_io::MemSink;
 use kmem_model::RecordEntry;
-
 use kmem_text::{Command, Reply, Value, read_script};
 use std::alloc::Global;
 use std::test::Fail;
 
-const TEXT: &[u8] = b"=== replies\n1 1 new\n1 2 val x\n2 1 new\n2 2 full\n=== history\n1 1\n2 1\n2 2\n1 2\n";
+const TEXT: &[u8] =
+    b"=== replies\n1 1 new\n1 2 val x\n2 1 new\n2 2 full\n=== history\n1 1\n2 1\n2 2\n1 2\n";
 
 // Prints four entries of two workers into a sink with so much room, and tells what it holds.
 fn printed(alloc: Global, room: usize) -> Result<Vec<u8>, Fail> {
