@@ -1,0 +1,13 @@
+mod Sums
+mod Lives
+mod Lefts
+mod Deletes
+mod Entered
+mod Puts
+mod Moved
+mod Idle
+mod Sessions
+mod Holding
+mod Runs
+mod Brought
+mod Tags
