@@ -10,4 +10,5 @@ mod Sessions
 mod Holding
 mod Runs
 mod Brought
+mod Due
 mod Tags

@@ -6,5 +6,4 @@ pub mod Moves
 pub mod Holds
 pub mod Sessions
 pub mod Runs
-
-
+pub mod Asks

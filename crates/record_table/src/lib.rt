@@ -1,12 +1,16 @@
 //! Records that threads share: a lock over the heap of records and the pen of the known words, and one history of the commands.
 #![tactic(auto)]
 
+mod asker;
 mod laws;
+mod mover;
 mod records;
 mod session;
 mod shares;
 mod table;
 mod turns;
 
+pub use asker::{Asker, AskerSign};
+pub use mover::Mover;
 pub use session::Session;
 pub use table::RecordTable;
