@@ -11,4 +11,5 @@ mod Holding
 mod Runs
 mod Brought
 mod Due
+mod Ends
 mod Tags

@@ -7,3 +7,5 @@ pub mod Holds
 pub mod Sessions
 pub mod Runs
 pub mod Asks
+pub mod Openings
+pub mod Closing

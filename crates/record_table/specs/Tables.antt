@@ -4,11 +4,12 @@ use Rattle.std.specs.Coded.{Coded, code_by, coded×, coded_ℕ, coded_list}
 use Rattle.atomic_table.specs.Seated.{TableId, table_id_coded}
 use Rattle.kmem_buf.specs.Homes.{Homes}
 use Rattle.kmem_buf.specs.Stubs.{nowhere}
-use Rattle.marks.specs.Words.{MarkPenState}
+use Rattle.marks.specs.Words.{MarkPenState, MarksState}
 use Rattle.kmem_model.specs.Records.{no_records}
 use Rattle.kmem_model.specs.Heap.{HeapState, StandsFor, places_of, leftover_count}
 use Rattle.kmem_model.specs.History.{map_after, IsLegalHistory, IsEntryWithin}
 use Rattle.kmem_model.specs.declared.record_entry.RecordEntry.{RecordEntry}
+use Rattle.hist_lock.specs.Passes.{Site}
 use Rattle.record_heap.specs.View.{HeapView}
 use Rattle.record_table.specs.Shares.{SharesState}
 use Rattle.record_table.specs.Ended.{has_ended}
@@ -98,3 +99,10 @@ pub record IsStandingFor (t : TableView) (history : List (ℕ × RecordEntry)) :
   pub known : t.pen.known ≡ places_of t.heap.heap.objects
   pub counted : IsCounted t
   pub left : 0 < leftover_count t.heap.heap → has_ended (no_records t.names t.workers) history ≡ true
+
+-- the lock, the words and the rooms are of one table
+pub record IsTable (lock : Site TableHome) (words : MarksState) (home : Homes) (passes shares : ℕ) : Type 0 where
+  pub words_of : words ≡ record { home = lock.home.words; buffers = length lock.home.cache.cells }
+  pub home_is : home ≡ lock.home.cache
+  pub room : (passes ≡ lock.count) × (shares ≡ lock.count)
+  pub shared : length lock.home.shares ≡ lock.count

@@ -2,8 +2,11 @@
 #![tactic(auto)]
 
 mod asker;
+mod closing;
 mod laws;
+mod log;
 mod mover;
+mod opening;
 mod records;
 mod session;
 mod shares;
@@ -11,6 +14,7 @@ mod table;
 mod turns;
 
 pub use asker::{Asker, AskerSign};
+pub use log::RecordLog;
 pub use mover::Mover;
 pub use session::Session;
 pub use table::RecordTable;

@@ -1,6 +1,9 @@
 //! The table that threads share.
 use crate::records::Records;
-use hist_lock::HistLock;
+use crate::shares::Share;
+use hist_lock::{HistLock, Pass};
+use kmem_buf::Home;
+use kmem_cache::Room;
 use marks::Marks;
 use std::marker::Model;
 
@@ -10,16 +13,19 @@ use std::marker::Model;
 pub struct RecordTable {
     pub(crate) lock: HistLock<Records>,
     pub(crate) marks: Marks,
+    pub(crate) home: Home,
+    // For what `close` takes apart.
+    pub(crate) passes: Room<Pass<Records>>,
+    pub(crate) shares: Room<Share>,
 }
 
 impl Model for RecordTable {
     ghost use Rattle.hist_lock.specs.Passes.{Site};
-    ghost use Rattle.record_table.specs.Tables.{TableHome};
-    ghost use Rattle.record_table.specs.Turns.{IsWordsOf};
+    ghost use Rattle.record_table.specs.Tables.{TableHome, IsTable};
 
     ghost Value = { Site TableHome };
 
     ghost view = { λ t. t.lock };
 
-    ghost invariant = { λ t. IsWordsOf t.lock.home t.marks };
+    ghost invariant = { λ t. IsTable t.lock t.marks t.home t.passes t.shares };
 }
