@@ -78,15 +78,15 @@ lives_there m addresses h b o stands at has =
     ⊎_elim
     (λ (none : length o.names + o.holds ≡ 0). absurd (both_ways _ has (ap (λ (x : Object). is_none x.value) (tied.blank none))))
     (λ (some : length o.names + o.holds ≡ 0 → ⊥). ⊎_elim
-      (λ (named : 0 < length o.names).
-        let at_name = leads_somewhere h.names b (subst (λ n. 0 < n) tied.once named) in
-        let led = led_in addresses m.names h.names stands.paired.names at_name.0 b at_name.1 in
-        (led.0, stands.valid.named at_name.0 led.0 led.1, led.2))
-      (λ none_named.
-        let at_tag = leads_somewhere h.tags b (subst (λ n. 0 < n) tied.holds (some_held some none_named)) in
-        let led = led_in addresses m.tags h.tags stands.paired.tags at_tag.0 b at_tag.1 in
-        (led.0, stands.valid.held at_tag.0 led.0 led.1, led.2))
-      (cases_lt 0 (length o.names)))
+    (λ (named : 0 < length o.names).
+    let at_name = leads_somewhere h.names b (subst (λ n. 0 < n) tied.once named) in
+    let led = led_in addresses m.names h.names stands.paired.names at_name.0 b at_name.1 in
+    (led.0, stands.valid.named at_name.0 led.0 led.1, led.2))
+    (λ none_named.
+    let at_tag = leads_somewhere h.tags b (subst (λ n. 0 < n) tied.holds (some_held some none_named)) in
+    let led = led_in addresses m.tags h.tags stands.paired.tags at_tag.0 b at_tag.1 in
+    (led.0, stands.valid.held at_tag.0 led.0 led.1, led.2))
+    (cases_lt 0 (length o.names)))
     (cases_eq (length o.names + o.holds) 0)
   where
     tied : IsTiedObject h b o

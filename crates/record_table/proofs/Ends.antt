@@ -88,6 +88,10 @@ fresh_all site n below [] low = All-nil (IsFreshPass site below)
 fresh_all site n below (q ∷ qs) low =
     All-cons (IsFreshPass site below) _ (fresh_passes site (n + 1) qs) (record { site_is = refl; low = omega arith; seen = refl; mine = refl }) (fresh_all site (n + 1) below qs (omega arith))
 
+pub fresh_sites : (site : Site TableHome) (n : ℕ) (quotas : List ℕ) → All (λ p. p.site ≡ site) (fresh_passes {E = RecordEntry} site n quotas)
+fresh_sites site n [] = All-nil (λ p. p.site ≡ site)
+fresh_sites site n (q ∷ qs) = All-cons (λ p. p.site ≡ site) _ (fresh_passes site (n + 1) qs) refl (fresh_sites site (n + 1) qs)
+
 fresh-append : (site : Site TableHome) (n : ℕ) (xs ys : List ℕ) → fresh_passes {E = RecordEntry} site n (xs ++ ys) ≡ fresh_passes site n xs ++ fresh_passes site (n + length xs) ys
 fresh-append site n [] ys = ap (λ k. fresh_passes site k ys) (omega arith)
 fresh-append site n (x ∷ xs) ys =
@@ -101,8 +105,15 @@ split_passes site scripts quotas movers passes left dealt is quotas_are parts lo
     let first = fresh_passes {E = RecordEntry} site 0 scripts in
     let second = fresh_passes {E = RecordEntry} site (0 + length scripts) (replicate movers 0) in
     let whole : left ++ dealt ≡ first ++ second = sym parts ∙ (is ∙ (ap (fresh_passes site 0) quotas_are ∙ fresh-append site 0 scripts (replicate movers 0))) in
-    let sizes : length left ≡ length first = omega (arith, ap length whole, length-append left dealt, length-append first second, long,
-      fresh_long site (0 + length scripts) (replicate movers 0), length-replicate {A = ℕ} movers 0) in
+    let sizes : length left ≡ length first = omega (
+      arith,
+      ap length whole,
+      length-append left dealt,
+      length-append first second,
+      long,
+      fresh_long site (0 + length scripts) (replicate movers 0),
+      length-replicate {A = ℕ} movers 0,
+    ) in
     let both = split_same left dealt first second whole sizes in
     let from : 0 + length scripts ≡ length scripts = omega arith in
     (both.0, both.1 ∙ ap (λ n. fresh_passes site n (replicate movers 0)) from)

@@ -53,11 +53,11 @@ entered t heap pen shares who number command reply h worker named tagged it righ
       left = λ some_left.
           ⊎_elim
           (λ (grows : object_count heap.heap + live_count m ≤ object_count t.heap.heap + live_count (map_next m e)).
-            ended_before start h (e ∷ []) (it.left (omega (arith, some_left, had, has, grows))))
+          ended_before start h (e ∷ []) (it.left (omega (arith, some_left, had, has, grows))))
           (λ (both : (drops e ≡ true) × (object_count heap.heap ≡ object_count t.heap.heap)). ⊎_elim
-            (λ fewer. ended_last start h e (ends m e both.0 fewer))
-            (λ (no_fewer : live_count m ≤ live_count (map_next m e)). ended_before start h (e ∷ []) (it.left (omega (arith, some_left, had, has, both.1, no_fewer))))
-            (cases_lt (live_count (map_next m e)) (live_count m)))
+          (λ fewer. ended_last start h e (ends m e both.0 fewer))
+          (λ (no_fewer : live_count m ≤ live_count (map_next m e)). ended_before start h (e ∷ []) (it.left (omega (arith, some_left, had, has, both.1, no_fewer))))
+          (cases_lt (live_count (map_next m e)) (live_count m)))
           leaves;
     }
 
@@ -105,9 +105,9 @@ stepped t heap who number command reply worker named tagged says next places liv
     stepped_to t heap t.pen t.shares who number command reply worker named tagged says (λ m addresses stands. (addresses, next m addresses stands)) (λ known. known ∙ sym places)
     (λ counted. omega (arith, counted, same))
     (λ m addresses stands. ⊎_elim
-      (λ (more : live_count m ≤ live_count (step m (worker_of who) command).map). inl (omega (arith, more, same)))
-      (λ drop. inr (drop number, same))
-      (lives m addresses stands))
+    (λ (more : live_count m ≤ live_count (step m (worker_of who) command).map). inl (omega (arith, more, same)))
+    (λ drop. inr (drop number, same))
+    (lives m addresses stands))
 
 -- the object's own command, which may be told apart from the one that was made only by an equation
 abbrev pub Enters : TableView → TableView → ℕ → ℕ → Command → Reply → Type 0

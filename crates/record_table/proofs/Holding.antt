@@ -64,20 +64,20 @@ module _ (home : TableHome) (who : ℕ) (mine : List RecordEntry) (holds : List 
   written e tag x low next held =
       holding_on e (set holds tag x) (length-set holds tag x ∙ it.size)
       (λ t small. ⊎_elim
-        (λ (same : tag ≡ t).
-          ap (λ n. is_some (get_or (set holds tag x) n None)) (sym same)
-          ∙ (ap is_some (get_or-set_same holds tag x None below)
-          ∙ (sym (ap (λ b. cond b (is_some x) (is_some (get_or holds t None))) (eq-eqb tag t same)) ∙ sym (next t (is_some (get_or holds t None))))))
-        (λ (other : tag ≡ t → ⊥).
-          ap is_some (get_or-set_other holds tag t x None (λ e. other (sym e)))
-          ∙ (sym (ap (λ b. cond b (is_some x) (is_some (get_or holds t None))) (ne_eqb tag t other)) ∙ sym (next t (is_some (get_or holds t None)))))
-        (cases_eq tag t))
+      (λ (same : tag ≡ t).
+      ap (λ n. is_some (get_or (set holds tag x) n None)) (sym same)
+      ∙ (ap is_some (get_or-set_same holds tag x None below)
+      ∙ (sym (ap (λ b. cond b (is_some x) (is_some (get_or holds t None))) (eq-eqb tag t same)) ∙ sym (next t (is_some (get_or holds t None))))))
+      (λ (other : tag ≡ t → ⊥).
+      ap is_some (get_or-set_other holds tag t x None (λ e. other (sym e)))
+      ∙ (sym (ap (λ b. cond b (is_some x) (is_some (get_or holds t None))) (ne_eqb tag t other)) ∙ sym (next t (is_some (get_or holds t None)))))
+      (cases_eq tag t))
       (λ t small. ⊎_elim
-        (λ (same : tag ≡ t).
-          subst (λ n. IfSome (get_or (set holds tag x) n None) (IsHeldBy home who n)) same
-          (subst (λ y. IfSome y (IsHeldBy home who tag)) (sym (get_or-set_same holds tag x None below)) held))
-        (λ (other : tag ≡ t → ⊥). subst (λ y. IfSome y (IsHeldBy home who t)) (sym (get_or-set_other holds tag t x None (λ e. other (sym e)))) (it.held t small))
-        (cases_eq tag t))
+      (λ (same : tag ≡ t).
+      subst (λ n. IfSome (get_or (set holds tag x) n None) (IsHeldBy home who n)) same
+      (subst (λ y. IfSome y (IsHeldBy home who tag)) (sym (get_or-set_same holds tag x None below)) held))
+      (λ (other : tag ≡ t → ⊥). subst (λ y. IfSome y (IsHeldBy home who t)) (sym (get_or-set_other holds tag t x None (λ e. other (sym e)))) (it.held t small))
+      (cases_eq tag t))
     where
       below : tag < length holds
       below = omega (arith, low, it.size)

@@ -12,4 +12,5 @@ mod Runs
 mod Brought
 mod Due
 mod Ends
+mod Held
 mod Tags

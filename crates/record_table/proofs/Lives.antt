@@ -76,9 +76,9 @@ unused_less : (m : RecordMap) (id : ℕ) → live_count m ≤ live_count (withou
 unused_less m id =
     cond_both (is_used m id) _ _ (λ (n : RecordMap). live_count m ≤ live_count n + 1) (λ e. omega arith)
     (λ e. ⊎_elim
-      (λ below. set_less below)
-      (λ past. omega (arith, ap (count_by is_some) (set_past m.records id None past)))
-      (cases_lt id (length m.records)))
+    (λ below. set_less below)
+    (λ past. omega (arith, ap (count_by is_some) (set_past m.records id None past)))
+    (cases_lt id (length m.records)))
   where
     one : (b : Bool) → cond b 1 0 ≤ 1
     one true = omega arith

@@ -100,8 +100,12 @@ module _ (t : TableView) (heap : HeapView) (pen : MarkPenState) (shares : Shares
             (λ m addresses stands. (addresses ++ buf.number ∷ [], it.is_new m addresses stands))
             (λ known. set_there ∙ (ap (λ ks. set ks buf.number true) known ∙ sym it.places))
             (λ counted. omega (arith, counted, more, grown.0, grown.1))
-            (λ m addresses stands. inl (omega (arith, more, put_new_lives m name.0 value,
-              ap (λ id. live_count (put_step m name.0 value id).map) (absent m addresses t.heap.heap name.0 stands none))));
+            (λ m addresses stands. inl (omega (
+              arith,
+              more,
+              put_new_lives m name.0 value,
+              ap (λ id. live_count (put_step m name.0 value id).map) (absent m addresses t.heap.heap name.0 stands none),
+            )));
       })
 
   -- a new record where a leftover was

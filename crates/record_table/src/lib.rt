@@ -14,7 +14,11 @@ mod table;
 mod turns;
 
 pub use asker::{Asker, AskerSign};
+pub use laws::{law_held, law_tags};
 pub use log::RecordLog;
 pub use mover::Mover;
 pub use session::Session;
 pub use table::RecordTable;
+
+#[cfg(test)]
+mod tests;

@@ -169,10 +169,11 @@ impl RecordTable {
         ensures count { IfOk result (λ r. r.0.count ≡ length scripts.now + movers) }
         ensures room { IfOk result (λ r. r.0.room ≡ sum scripts.now) }
         ensures sessions { IfOk result (λ r. map (λ s. s.pass) r.1.items ≡ fresh_passes r.0 0 scripts.now) }
+        ensures of { IfOk result (λ r. All (λ s. s.pass.site ≡ r.0) r.1.items) }
         ensures fresh { IfOk result (λ r. All IsFreshSession r.1.items) }
         ensures movers { IfOk result (λ r. map (λ m. m.pass) r.2.items ≡ fresh_passes r.0 (length scripts.now) (replicate movers 0)) }
         ensures fresh_movers { IfOk result (λ r. All IsFreshMover r.2.items) }
-        ensures of { IfOk result (λ r. All (IsMoverOf r.0) r.2.items) }
+        ensures movers_of { IfOk result (λ r. All (IsMoverOf r.0) r.2.items) }
     {
         let workers = scripts.len() as u32;
         let count = workers + movers;
@@ -181,8 +182,14 @@ impl RecordTable {
         let share_room = Room::create(alloc, count)?;
         let sessions = Vec::with_capacity(alloc, scripts.len())?;
         let asking = Vec::with_capacity(alloc, movers as usize)?;
-        let (records, marks, seats, mut shares) =
-            Records::create(alloc, home.again(), names, buffers, workers, movers)?;
+        let (records, marks, seats, mut shares) = Records::create(
+            alloc,
+            home.again(),
+            names,
+            buffers,
+            workers,
+            movers,
+        )?;
         let (lock, mut passes) = HistLock::create(alloc, records, &quotas)?;
         let mut asking = all_movers(&lock, &mut passes, &mut shares, seats, asking);
         let mut sessions = all_sessions(alloc, &lock, passes, shares, sessions)?;

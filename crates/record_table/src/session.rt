@@ -41,6 +41,20 @@ impl Model for Session {
 }
 
 impl Session {
+    /// How many commands it may still carry out.
+    pub fn left(&self) -> u32
+        ensures { result ≡ self.now.pass.left }
+    {
+        self.pass.left()
+    }
+
+    /// How many commands it has carried out.
+    pub fn made(&self) -> u32
+        ensures { result ≡ self.now.made }
+    {
+        self.made
+    }
+
     /// Carries out one command, in one turn that makes its entry; a put looks before that turn, and may make a turn more. It may wait for
     /// other turns, of the table and of the cache.
     pub fn run<R: Wait>(

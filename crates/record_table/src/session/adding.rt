@@ -15,12 +15,7 @@ use std::sync::Wait;
 
 impl Session {
     // A command that needs no buffer and no hold, and gives none.
-    pub(crate) fn plain<R: Wait>(
-        &mut self,
-        rt: &R,
-        table: &RecordTable,
-        command: &Command,
-    ) -> Reply
+    pub(crate) fn plain<R: Wait>(&mut self, rt: &R, table: &RecordTable, command: &Command) -> Reply
         requires plain { is_plain command.now ≡ true }
         requires can { CanRun table.now self.old command.now }
         ensures done { HasCarriedOutAlone command.now result self.old self.new }

@@ -104,8 +104,9 @@ impl Session {
             unreachable!()
         };
         let pass = &mut self.pass;
-        let (reply, back, share) =
-            put_over(rt, table, cache, seat, pass, number, name, value, share);
+        let (reply, back, share) = put_over(
+            rt, table, cache, seat, pass, number, name, value, share,
+        );
         self.share = Some(share);
         self.made = number;
         match back {

@@ -207,7 +207,12 @@ pub fn run_put<R: Wait>(
 }
 
 // Whether a name is there.
-pub fn is_there<R: Wait>(rt: &R, table: &RecordTable, pass: &mut Pass<Records>, name: NameId) -> bool
+pub fn is_there<R: Wait>(
+    rt: &R,
+    table: &RecordTable,
+    pass: &mut Pass<Records>,
+    name: NameId,
+) -> bool
     requires of { pass.old.site ≡ table.now }
     requires name { name.0 < table.now.home.names }
     ensures looked { HasLooked pass.old pass.new }

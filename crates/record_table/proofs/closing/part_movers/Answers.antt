@@ -38,9 +38,9 @@ loop-mover-preserved c =
         mover ∷ done,
         inv.parted.1 ∙ (ap (λ l. l ++ done) popped.items ∙ append_assoc left (mover ∷ []) done),
         first.items ∙ ((λ i. inv.parted.2 i ++ (c.mover.view_is i).pass ∷ [])
-        ∙ (append_assoc c.args.parts.passes.items (map pass (reverse done)) (mover.pass ∷ []) ∙ ap (λ l. c.args.parts.passes.items ++ l) (sym (map-more pass mover done)))),
+            ∙ (append_assoc c.args.parts.passes.items (map pass (reverse done)) (mover.pass ∷ []) ∙ ap (λ l. c.args.parts.passes.items ++ l) (sym (map-more pass mover done)))),
         second.items ∙ ((λ i. inv.parted.3 i ++ same i ∷ [])
-        ∙ (append_assoc c.args.parts.shares.items (map shared (reverse done)) (mover.share ∷ []) ∙ ap (λ l. c.args.parts.shares.items ++ l) (sym (map-more shared mover done)))),
+            ∙ (append_assoc c.args.parts.shares.items (map shared (reverse done)) (mover.share ∷ []) ∙ ap (λ l. c.args.parts.shares.items ++ l) (sym (map-more shared mover done)))),
         All-cons D mover done (subst D c.mover.view_is c.mover.invariant.due) inv.parted.4,
       );
       of = parts.0;

@@ -9,7 +9,7 @@ invariant-loop-share l = record {
   at : All (IsShareAt l.stubs.homes) l.shares.items;
   out : l.stubs.out ≡ vec_len l.shares;
   back : (done : List ShareState) × (l.fn.shares.items ≡ l.shares.items ++ done) × (l.stubs.brought + sum_by (λ s. s.brought) done ≡ l.fn.stubs.brought)
-    × (l.stubs.fetched + sum_by (λ s. s.fetched) done ≡ l.fn.stubs.fetched);
+      × (l.stubs.fetched + sum_by (λ s. s.fetched) done ≡ l.fn.stubs.fetched);
 }
 
 abbrev pub decreases-loop-share : goal.decreases-loop-share

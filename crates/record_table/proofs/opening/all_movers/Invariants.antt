@@ -14,7 +14,7 @@ invariant-loop-seat l = record {
   seats : All (λ s. s.home ≡ l.lock.home.words) l.seats.items;
   count : (vec_len l.shares ≡ vec_len l.passes) × (vec_len l.seats ≤ vec_len l.passes);
   dealt : (done : List (PassState RecordEntry TableHome)) × (l.fn.passes.items ≡ l.passes.items ++ done) × (map (λ m. m.pass) l.movers.items ≡ reverse done)
-    × (length done + vec_len l.seats ≡ vec_len l.fn.seats);
+      × (length done + vec_len l.seats ≡ vec_len l.fn.seats);
   of : All (IsMoverOf l.lock) l.movers.items;
   new : All IsFreshMover l.movers.items;
   room : vec_len l.seats + vec_len l.movers ≤ vec_capacity l.movers;

@@ -23,8 +23,12 @@ returns-clause-stands c =
     let did = c.answer_move-answer in
     let said : (v : Verdict) → c.verdict.result ≡ v → says f.heap.heap true from ≡ said_of v =
     (λ v is. sym did.ensures.answer ∙ ap said_of (sym c.verdict.ensures ∙ is)) in
-    let low : to < length f.heap.heap.objects = omega (arith, slice_get_within f.heap.home.cells to c.args.to.home
-      (subst (λ (v : TableView). slice_get v.heap.home.cells to ≡ Some c.args.to.home) (sym c.self.view_is) c.requires.ask.ready.of), c.self.invariant.objects) in
+    let low : to < length f.heap.heap.objects = omega (
+      arith,
+      slice_get_within f.heap.home.cells to c.args.to.home
+          (subst (λ (v : TableView). slice_get v.heap.home.cells to ≡ Some c.args.to.home) (sym c.self.view_is) c.requires.ask.ready.of),
+      c.self.invariant.objects,
+    ) in
     let there : is_some (object_at f.heap.heap from) ≡ true = sym c.lists.ensures ∙ c.if-not-lists.false in
     let counted : (shares : SharesState) (b d : ℕ) (v : Verdict) → says f.heap.heap true from ≡ said_of v →
     shares ≡ record f.shares { brought = f.shares.brought + b; fetched = f.shares.fetched + d } → b ≡ brought_said (said_of v) → d ≡ fetched_said (said_of v) →
@@ -43,7 +47,7 @@ returns-clause-stands c =
     (shares.brought ≡ t.shares.brought + brought_said (says f.heap.heap true from)) × (shares.fetched ≡ t.shares.fetched + fetched_said (says f.heap.heap true from)) →
     StaysStanding t (record t { heap = did.new.self; pen = pen; shares = shares }) =
     (λ pen shares words grown. stays_after t did.new.self pen shares from to (says f.heap.heap true from) did.ensures.heap did.ensures.stands words
-      (record { there = there; empty = did.ensures.empty; low = low }) grown) in
+    (record { there = there; empty = did.ensures.empty; low = low }) grown) in
     elim c.match-verdict.branch [
       | in-Yes w ↦
           subst₂ StaysStanding c.self.view_is (sym w.self-is)

@@ -24,8 +24,8 @@ returns-clause-entered c = λ number.
     let hold = c.args.hold in
     let done : (m : RecordMap) (addresses : List ℕ) → StandsFor m addresses f.heap.heap → c.release.result ≡ Done =
     (λ m addresses stands.
-      let id = held_in m addresses f.heap.heap (tag_place hold.worker hold.tag) hold.address stands c.release.ensures.held in
-      c.release.ensures.reply m addresses stands ∙ dropped_done m (tag_place hold.worker hold.tag) (held_at m (tag_place hold.worker hold.tag)) id.0 id.1) in
+    let id = held_in m addresses f.heap.heap (tag_place hold.worker hold.tag) hold.address stands c.release.ensures.held in
+    c.release.ensures.reply m addresses stands ∙ dropped_done m (tag_place hold.worker hold.tag) (held_at m (tag_place hold.worker hold.tag)) id.0 id.1) in
     subst (λ (v : TableView). HasEntered v (record t { heap = c.release.new.self }) c.args.who (entry_of number (Drop hold.tag) c.release.result)) c.self.view_is
     (stepped t c.release.new.self c.args.who number (Drop hold.tag) c.release.result
     (subst (λ (v : TableView). c.args.who < v.workers) (sym c.self.view_is) c.requires.worker) tt

@@ -11,7 +11,7 @@ use Rattle.record_table.proofs.session.Session.hold.Given.{Over}
 use Rattle.record_table.proofs.session.Session.hold.Goals as goal
 
 did : (g : Over) (c : goal.After-self-1 g) → IsAlone (Hold c.args.tag c.args.name) c.run_hold-reply.result.0 (session_of c.self.inside.pass c.self.inside.made c.self.inside.holds.items c.self.inside.share) (session_of c.run_hold-reply.new.pass (c.self.inside.made + 1) c.keep.new.holds.items c.self.inside.share)
-did g c = 
+did g c =
     let of : c.self.inside.pass.site ≡ c.args.table.now = ap (λ (s : SessionState). s.pass.site) c.self.view_is ∙ c.requires.can.of in
     let low : c.args.tag < 8 = omega arith in
     did_hold (session_of c.self.inside.pass c.self.inside.made c.self.inside.holds.items c.self.inside.share) (session_of c.run_hold-reply.new.pass (c.self.inside.made + 1) c.keep.new.holds.items c.self.inside.share) _ c.self.invariant c.args.tag c.args.name c.run_hold-reply.result.0 c.run_hold-reply.result.1 low c.run_hold-reply.ensures.added refl

@@ -11,7 +11,7 @@ use Rattle.record_table.proofs.session.Session.write.Given.{Over}
 use Rattle.record_table.proofs.session.Session.write.Goals as goal
 
 did : (g : Over) (c : goal.After-self-1 g) → IsAlone (Write c.args.tag c.args.value) c.run_write-reply.result.0 (session_of c.self.inside.pass c.self.inside.made c.self.inside.holds.items c.self.inside.share) (session_of c.run_write-reply.new.pass (c.self.inside.made + 1) c.keep.new.holds.items c.self.inside.share)
-did g c = 
+did g c =
     let there = sym c.take.ensures.taken ∙ c.in-Some.is in
     let low : c.args.tag < 8 = omega arith in
     let same = (held_of (session_of c.self.inside.pass c.self.inside.made c.self.inside.holds.items c.self.inside.share) _ c.self.invariant c.args.tag c.in-Some.hold low there).same in
@@ -29,7 +29,7 @@ returns-in-Some g c = record {
 }
 
 did_none : (g : Over) (c : goal.After-self-in-None-1 g) → IsAlone (Write c.args.tag c.args.value) c.run_idle-reply.result (session_of c.self.inside.pass c.self.inside.made c.self.inside.holds.items c.self.inside.share) (session_of c.run_idle-reply.new.pass (c.self.inside.made + 1) c.take.new.holds.items c.self.inside.share)
-did_none g c = 
+did_none g c =
     let none = sym c.take.ensures.taken ∙ c.in-None.is in
     did_idle (session_of c.self.inside.pass c.self.inside.made c.self.inside.holds.items c.self.inside.share) (session_of c.run_idle-reply.new.pass (c.self.inside.made + 1) c.take.new.holds.items c.self.inside.share) _ c.self.invariant (Write c.args.tag c.args.value) c.run_idle-reply.result c.args.tag refl refl none c.run_idle-reply.ensures.idle c.run_idle-reply.ensures.added refl
     (c.take.ensures.left ∙ none_there c.self.inside.holds.items c.args.tag none) refl

@@ -96,16 +96,16 @@ returns-clause-numbers c =
     let ms = c.args.movers.items in
     let number : PassState RecordEntry TableHome → ℕ = λ p. p.number in
     numbering (all_numbers ss ms) c.args.self.count (λ weight.
-      let numbers : sum_by weight (all_numbers ss ms) ≡ sum_by (λ (s : SessionState). weight s.pass.number) ss + sum_by (λ (m : MoverState). weight m.pass.number) ms =
-      omega (
-        arith,
-        sum_by-append weight (map (λ (s : SessionState). s.pass.number) ss) (map (λ (m : MoverState). m.pass.number) ms),
-        sum-map weight (λ (s : SessionState). s.pass.number) ss,
-        sum-map weight (λ (m : MoverState). m.pass.number) ms,
-      ) in
-      let closed = ap (λ ps. sum_by weight (map number ps)) (sym (all_are c)) ∙ c.close-records.ensures.weighs weight in
-      let both = sum-map weight number (both_turned pass_of mover_pass ss ms) ∙ sum_both pass_of mover_pass ss ms (λ (p : PassState RecordEntry TableHome). weight p.number) in
-      numbers ∙ (sym both ∙ (closed ∙ ap (λ (k : Site TableHome). sum_by weight (range_with_len 0 k.count)) c.self.view_is)))
+    let numbers : sum_by weight (all_numbers ss ms) ≡ sum_by (λ (s : SessionState). weight s.pass.number) ss + sum_by (λ (m : MoverState). weight m.pass.number) ms =
+    omega (
+      arith,
+      sum_by-append weight (map (λ (s : SessionState). s.pass.number) ss) (map (λ (m : MoverState). m.pass.number) ms),
+      sum-map weight (λ (s : SessionState). s.pass.number) ss,
+      sum-map weight (λ (m : MoverState). m.pass.number) ms,
+    ) in
+    let closed = ap (λ ps. sum_by weight (map number ps)) (sym (all_are c)) ∙ c.close-records.ensures.weighs weight in
+    let both = sum-map weight number (both_turned pass_of mover_pass ss ms) ∙ sum_both pass_of mover_pass ss ms (λ (p : PassState RecordEntry TableHome). weight p.number) in
+    numbers ∙ (sym both ∙ (closed ∙ ap (λ (k : Site TableHome). sum_by weight (range_with_len 0 k.count)) c.self.view_is)))
 
 pub returns-clause-within : goal.returns-clause-within
 returns-clause-within c =

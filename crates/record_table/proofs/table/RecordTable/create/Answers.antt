@@ -10,7 +10,8 @@ use Rattle.record_table.specs.Turns.{IsWordsOf}
 use Rattle.record_table.specs.Sessions.{SessionState}
 use Rattle.record_table.specs.Asks.{MoverState}
 use Rattle.record_table.specs.Openings.{IsFreshPass, IsFreshShare}
-use Rattle.record_table.proofs.Ends.{fresh_all, fresh_long, shares_all, shares_long, split_passes, turned_back}
+use Rattle.kmem_cache.proofs.Partings.{all_unmap}
+use Rattle.record_table.proofs.Ends.{fresh_all, fresh_sites, fresh_long, shares_all, shares_long, split_passes, turned_back}
 use Rattle.record_table.proofs.table.RecordTable.create.Goals as goal
 
 pub all_movers-asking-requires-clause-fresh : goal.all_movers-asking-requires-clause-fresh
@@ -98,6 +99,22 @@ returns-clause-sessions c =
     (quotas_are quotas scripts c.in_ok-quotas.quotas.items c.args.movers c.deref.ensures.value c.in_ok-quotas.ensures.items) movers.1 (movers.2 ∙ seats) in
     ap (map (λ (s : SessionState). s.pass)) c.reverse-2.ensures.items
     ∙ (turned_back (λ (s : SessionState). s.pass) c.in_ok-sessions-2.sessions.items c.all_movers-asking.new.passes.items c.in_ok-sessions-2.ensures.passes ∙ split.0)
+
+pub returns-clause-of : goal.returns-clause-of
+returns-clause-of c =
+    let lock = c.in_ok-lock.lock in
+    let quotas = c.deref.result.now in
+    let scripts = c.args.scripts.now in
+    let movers = c.all_movers-asking.ensures.passes in
+    let seats : length c.in_ok-records.seats.items ≡ c.args.movers = ap length c.in_ok-records.ensures.seats ∙ length-replicate c.args.movers (fresh_mark_seat c.in_ok-records.marks.home) in
+    let split = split_passes lock scripts quotas c.args.movers c.in_ok-lock.passes.items c.all_movers-asking.new.passes.items movers.0 c.in_ok-lock.ensures.passes
+    (quotas_are quotas scripts c.in_ok-quotas.quotas.items c.args.movers c.deref.ensures.value c.in_ok-quotas.ensures.items) movers.1 (movers.2 ∙ seats) in
+    let P : PassState RecordEntry TableHome → Type 0 = λ p. p.site ≡ lock in
+    let is : map (λ (s : SessionState). s.pass) c.reverse-2.new.self.items ≡ fresh_passes lock 0 scripts =
+    ap (map (λ (s : SessionState). s.pass)) c.reverse-2.ensures.items
+    ∙ (turned_back (λ (s : SessionState). s.pass) c.in_ok-sessions-2.sessions.items c.all_movers-asking.new.passes.items c.in_ok-sessions-2.ensures.passes ∙ split.0) in
+    all_unmap P (λ (s : SessionState). s.pass) c.reverse-2.new.self.items
+    (All-same P (map (λ (s : SessionState). s.pass) c.reverse-2.new.self.items) (fresh_passes lock 0 scripts) is (fresh_sites lock 0 scripts))
 
 pub returns-clause-movers : goal.returns-clause-movers
 returns-clause-movers c =
