@@ -1,0 +1,16 @@
+mod Sums
+mod Lives
+mod Lefts
+mod Deletes
+mod Entered
+mod Puts
+mod Moved
+mod Idle
+mod Sessions
+mod Holding
+mod Runs
+mod Brought
+mod Due
+mod Ends
+mod Held
+mod Tags

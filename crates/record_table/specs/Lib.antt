@@ -1,0 +1,11 @@
+pub mod Ended
+pub mod Shares
+pub mod Tables
+pub mod Turns
+pub mod Moves
+pub mod Holds
+pub mod Sessions
+pub mod Runs
+pub mod Asks
+pub mod Openings
+pub mod Closing
