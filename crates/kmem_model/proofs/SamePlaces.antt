@@ -1,12 +1,12 @@
 -- Objects that lie in buffers that are out, as many as are out, lie in just these.
-use Rattle.std.proofs.Common.{◌≡◌, ◌+◌, ◌-◌, ◌*◌, ◌/◌, ◌%◌, ◌<◌, ◌≤◌, ◌++◌, ℕ, zero, suc, Bool, true, false, cond, List, [], ◌∷◌, length, map, count_by, get_or, Option, Some, None, is_some, refl, sym, ap, ap₂, ◌∙◌, subst, ⊎_elim, arith, length-append, add-zero}
+use Rattle.std.proofs.Common.{◌≡◌, ◌+◌, ◌-◌, ◌*◌, ◌/◌, ◌%◌, ◌<◌, ◌≤◌, ◌++◌, ℕ, zero, suc, Bool, true, false, cond, List, [], ◌∷◌, length, map, count_by, get_or, Option, None, is_some, refl, sym, ap, ap₂, ◌∙◌, ⊎_elim, arith, length-append}
 use Rattle.std.specs.List.{flat_map, sum_by, AllByRecursion}
 use Rattle.std.proofs.lemmas.Bool.{cases_lt}
 use Rattle.std.proofs.lemmas.List.{get_or_append_left, get_or-append_right, length-map}
-use Rattle.std.proofs.lemmas.List.Sums.{sum_by-cons, sum_by-append, count_by-le-length}
+use Rattle.std.proofs.lemmas.List.Sums.{sum_by-cons, sum_by-append}
 use Rattle.std.proofs.lemmas.List.Elements.{recursion_from_All}
 use Rattle.std.proofs.Math.Nat.{div-eq_of_lt, mul-add-div, mod-eq_of_lt, mul-add-mod_self_left}
-use Rattle.kmem_model.specs.CacheState.{SlabState, CacheState, no_slab, slab_at, used, is_out, is_out_on, out_count}
+use Rattle.kmem_model.specs.CacheState.{SlabState, CacheState, slab_at, used, is_out, is_out_on, out_count}
 use Rattle.kmem_model.specs.SettleWhole.{IsWholeSlab, IsWhole}
 use Rattle.kmem_model.specs.Heap.{Object}
 use Rattle.kmem_model.specs.Says.{AreInBuffers}
