@@ -1,0 +1,1 @@
+-- A mover's whole run.

@@ -1,0 +1,8 @@
+//! The movers of a run: each makes its scans and carries jobs, in a thread of its own.
+#![tactic(auto)]
+
+mod mover;
+mod pair;
+
+pub use mover::MoverTask;
+pub use pair::run_movers;
