@@ -1,4 +1,7 @@
 pub mod Within
 pub mod Turns
 pub mod Sums
+pub mod Working
+pub mod Counts
+pub mod Trying
 pub mod Bench

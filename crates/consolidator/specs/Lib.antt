@@ -1,3 +1,7 @@
 pub mod Tallies
 pub mod Settles
+pub mod Notes
+pub mod Rounds
+pub mod Works
+pub mod Tries
 pub mod Bench

@@ -26,7 +26,22 @@ tally_sum a b =
       gone = capped_sum a.gone b.gone;
     }
 
--- with one more move, which ended by this answer
+-- with one more move that was begun, or that ended unasked
+abbrev pub tally_begun : Tally → Tally
+tally_begun t = record t { begun = one_more t.begun }
+
+abbrev pub tally_gone : Tally → Tally
+tally_gone t = record t { gone = one_more t.gone }
+
+-- with one more move that ended by this answer
+abbrev pub tally_answered : Said → Tally → Tally
+tally_answered Yes t = record t { yes = one_more t.yes }
+tally_answered No t = record t { no = one_more t.no }
+tally_answered Later t = record t { later = one_more t.later }
+tally_answered DontNeed t = record t { dont_need = one_more t.dont_need }
+tally_answered DontKnow t = record t { dont_know = one_more t.dont_know }
+
+-- with one more move, which was begun and ended by this answer
 abbrev pub counted : Tally → Said → Tally
 counted t Yes = record t { begun = one_more t.begun; yes = one_more t.yes }
 counted t No = record t { begun = one_more t.begun; no = one_more t.no }
