@@ -64,24 +64,31 @@ came_back j (Some e) is =
 
 -- Counts of the client
 
-pub record GrowsLittle (n m : Notes) : Type 0 where
-  pub brought : m.brought ≤ n.brought + 1
-  pub fetched : m.fetched ≤ n.fetched + 1
+-- each grew by so much at most
+pub record GrowsLittle (n m : Notes) (by : ℕ) : Type 0 where
+  pub brought : m.brought ≤ n.brought + by
+  pub fetched : m.fetched ≤ n.fetched + by
 
-pub grows_little : (e : CacheEntry) (n : Notes) → GrowsLittle n (noted e n)
-grows_little (End j Yes) n = record { brought = omega arith; fetched = omega arith }
-grows_little (End j No) n = record { brought = omega arith; fetched = omega arith }
-grows_little (End j Later) n = record { brought = omega arith; fetched = omega arith }
-grows_little (End j DontNeed) n = record { brought = omega arith; fetched = omega arith }
-grows_little (End j DontKnow) n = record { brought = omega arith; fetched = omega arith }
-grows_little (Alloc b) n = record { brought = omega arith; fetched = omega arith }
-grows_little Full n = record { brought = omega arith; fetched = omega arith }
-grows_little (Free b) n = record { brought = omega arith; fetched = omega arith }
-grows_little (Scan d) n = record { brought = omega arith; fetched = omega arith }
-grows_little (Begin i from to) n = record { brought = omega arith; fetched = omega arith }
-grows_little Idle n = record { brought = omega arith; fetched = omega arith }
-grows_little (Gone i) n = record { brought = omega arith; fetched = omega arith }
-grows_little Forget n = record { brought = omega arith; fetched = omega arith }
+pub one_little : (e : CacheEntry) (n : Notes) → GrowsLittle n (noted e n) (moves_ended e)
+one_little (End j Yes) n = record { brought = omega arith; fetched = omega arith }
+one_little (End j No) n = record { brought = omega arith; fetched = omega arith }
+one_little (End j Later) n = record { brought = omega arith; fetched = omega arith }
+one_little (End j DontNeed) n = record { brought = omega arith; fetched = omega arith }
+one_little (End j DontKnow) n = record { brought = omega arith; fetched = omega arith }
+one_little (Alloc b) n = record { brought = omega arith; fetched = omega arith }
+one_little Full n = record { brought = omega arith; fetched = omega arith }
+one_little (Free b) n = record { brought = omega arith; fetched = omega arith }
+one_little (Scan d) n = record { brought = omega arith; fetched = omega arith }
+one_little (Begin i from to) n = record { brought = omega arith; fetched = omega arith }
+one_little Idle n = record { brought = omega arith; fetched = omega arith }
+one_little (Gone i) n = record { brought = omega arith; fetched = omega arith }
+one_little Forget n = record { brought = omega arith; fetched = omega arith }
+
+pub all_little : (es : List CacheEntry) (n : Notes) → GrowsLittle n (noted_all es n) (total moves_ended es)
+all_little [] n = record { brought = omega arith; fetched = omega arith }
+all_little (e ∷ es) n =
+    let one = one_little e n in let rest = all_little es (noted e n) in
+    record { brought = omega (arith, one.brought, rest.brought); fetched = omega (arith, one.fetched, rest.fetched) }
 
 -- Sums
 

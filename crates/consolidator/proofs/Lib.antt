@@ -4,4 +4,5 @@ pub mod Sums
 pub mod Working
 pub mod Counts
 pub mod Trying
+pub mod Rounding
 pub mod Bench

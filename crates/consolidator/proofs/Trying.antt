@@ -16,7 +16,7 @@ use Rattle.consolidator.specs.Rounds.{IsEndOf}
 use Rattle.consolidator.specs.Works.{HasEntered, HasQueued, HasSameMagazines, HasFinished, Work, HasWorked, Tried, IsTried, entries_of_try, scan_entries, HasScanned}
 use Rattle.consolidator.specs.Tries.{HasPut, HasTried, IsWithin}
 use Rattle.consolidator.proofs.Working.{entered_chain, entered_one, entered_same, worked_chain}
-use Rattle.consolidator.proofs.Counts.{ended_is, came_back, grows_little}
+use Rattle.consolidator.proofs.Counts.{EndsOne, ends_one, ended_is, came_back, one_little}
 
 -- One move
 
@@ -46,10 +46,11 @@ put_pushed old new job some pushed seat notes = record {
 pub put_back : {X : Type 0} (site : CacheSite) (old new : Work X) (job back : JobState X) → back ≡ job → new.place ≡ record old.place { refused = old.place.refused + 1 } →
     HasFinished site old.seat new.seat old.notes new.notes back → HasPut job.move.no old new
 put_back site old new job back is place finished =
-    let e = finished.entry in let little = grows_little e old.notes in
+    let e = finished.entry in let little = one_little e old.notes in
+    let is_end = ended_is site old.seat.pass new.seat.pass back e finished.ended in let one = ends_one back.move.no e is_end in
     record {
       back = Some e;
-      tried = subst (λ j. IsEndOf j.move.no e) is (ended_is site old.seat.pass new.seat.pass back e finished.ended);
+      tried = subst (λ j. IsEndOf j.move.no e) is is_end;
       entered = finished.entered;
       pushed = omega (arith, ap (λ p. length p.pushed) place);
       refused = omega (arith, ap (λ p. p.refused) place);
@@ -57,8 +58,8 @@ put_back site old new job back is place finished =
       left = omega (arith, ap (λ p. length p.pushed) place, ap (λ p. p.left) place);
       same = (ap (λ p. p.ring) place, ap (λ p. p.count) place, ap (λ p. p.terms) place);
       magazines = finished.magazines;
-      brought = omega (arith, little.brought, ap (λ (n : Notes). n.brought) finished.entered.noted);
-      fetched = omega (arith, little.fetched, ap (λ (n : Notes). n.fetched) finished.entered.noted);
+      brought = omega (arith, one.ended, little.brought, ap (λ (n : Notes). n.brought) finished.entered.noted);
+      fetched = omega (arith, one.ended, little.fetched, ap (λ (n : Notes). n.fetched) finished.entered.noted);
     }
 
 -- a move was begun, and its job was put

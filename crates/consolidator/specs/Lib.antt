@@ -4,4 +4,5 @@ pub mod Notes
 pub mod Rounds
 pub mod Works
 pub mod Tries
+pub mod Drives
 pub mod Bench

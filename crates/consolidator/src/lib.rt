@@ -2,6 +2,7 @@
 #![tactic(auto)]
 
 mod carrying;
+mod driving;
 mod laws;
 mod marks;
 mod scanning;
@@ -9,6 +10,7 @@ mod scans;
 mod tally;
 
 pub use carrying::carry;
+pub use driving::{MoverPlan, drive};
 pub use laws::law_tally;
 pub use scanning::scan;
 pub use scans::settle;
