@@ -4,6 +4,7 @@ use Rattle.std.proofs.lemmas.List.Elements.{All-nil, All-cons}
 use Rattle.hist_lock.specs.History.{listed}
 use Rattle.hist_lock.specs.Passes.{PassState}
 use Rattle.kmem_buf.specs.Answers.{Flags}
+use Rattle.kmem_model.specs.CacheScans.{scanning}
 use Rattle.kmem_model.specs.CacheCounts.{moves_begun, moves_ended, total}
 use Rattle.kmem_model.specs.declared.cache_entry.CacheEntry.{CacheEntry}
 use Rattle.kmem_model.specs.declared.cache_entry.CacheEntry.TheVariants.{Alloc, Full, Free, Scan, Begin, Idle, Gone, End, Forget}
@@ -15,7 +16,7 @@ use Rattle.kmem_cache.specs.declared.locked.CacheHome.{CacheHome}
 use Rattle.kmem_cache.specs.Seats.{CacheSite}
 use Rattle.move_queue.specs.Queue.{QueueSeatState, HasPopped}
 use Rattle.consolidator.specs.Notes.{Notes, noted, noted_all}
-use Rattle.consolidator.specs.Rounds.{is_scanning, IsEndOf, IsOfMoves}
+use Rattle.consolidator.specs.Rounds.{IsEndOf, IsOfMoves}
 use Rattle.consolidator.specs.Works.{HasEnded, HasQueued, HasCarried, Work, HasWorked, Tried, IsTried, entries_of_try, AreKept, CountsGiven, IsBalanced}
 use Rattle.consolidator.proofs.Working.{entered_same}
 
@@ -26,7 +27,7 @@ pub record EndsOne (e : CacheEntry) : Type 0 where
   pub begun : moves_begun e ≡ 0
   pub ended : moves_ended e ≡ 1
   pub kind : IsOfMoves e
-  pub calm : is_scanning e ≡ false
+  pub calm : scanning (e ∷ []) ≡ []
 
 pub ends_one : (j : ℕ) (e : CacheEntry) → IsEndOf j e → EndsOne e
 ends_one j (Alloc b) is = absurd is
@@ -217,7 +218,7 @@ pub record HasCalmly {X : Type 0} (old new : Work X) : Type 0 where
   pub entries : List CacheEntry
   pub worked : HasWorked old new entries
   pub moves : All IsOfMoves entries
-  pub calm : filter is_scanning entries ≡ []
+  pub calm : scanning entries ≡ []
 
 queued_same : {X : Type 0} (place place' : QueueSeatState X) → place' ≡ record place { done = true } → HasQueued place place' []
 queued_same place place' is = record {
@@ -249,7 +250,7 @@ carried_calmly site old new true carried =
       entries = e ∷ [];
       worked = record { entered = finished.entered; queued = queued_popped old.place new.place job e carried.1 one };
       moves = All-cons IsOfMoves e [] one.kind (All-nil IsOfMoves);
-      calm = rw one.calm;
+      calm = one.calm;
     }
 carried_calmly site old new false same =
     record {

@@ -4,5 +4,6 @@ pub mod Sums
 pub mod Working
 pub mod Counts
 pub mod Trying
+pub mod Joined
 pub mod Rounding
 pub mod Bench

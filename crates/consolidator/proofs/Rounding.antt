@@ -1,10 +1,11 @@
 -- A mover's rounds, and the room that they leave.
-use Rattle.std.proofs.Common.{◌≡◌, ℕ, zero, suc, ◌+◌, ◌*◌, ◌^◌, ◌<◌, ◌≤◌, ◌⊎◌, ⊎_elim, Bool, true, false, List, [], ◌∷◌, ◌++◌, length, map, filter, All, IfSome, Option, Some, None, refl, sym, ap, ◌∙◌, subst, inl, inr, arith, append_assoc, length-append}
-use Rattle.std.specs.List.{flat_map}
+use Rattle.std.proofs.Common.{◌≡◌, ℕ, zero, suc, ◌+◌, ◌*◌, ◌^◌, ◌<◌, ◌≤◌, ◌⊎◌, ⊎_elim, Bool, true, false, ◌||◌, ◌&&◌, ◌==◌, List, [], ◌∷◌, ◌++◌, length, map, filter, All, IfSome, Option, Some, None, refl, sym, ap, ◌∙◌, subst, inl, inr, arith, append_assoc, length-append}
+use Rattle.std.specs.List.{flat_map, list_all}
 use Rattle.std.proofs.lemmas.List.{append-nil, length-map}
 use Rattle.std.proofs.lemmas.List.Concat.{flat_map-append}
 use Rattle.std.proofs.lemmas.List.Elements.{All-nil, All-cons, All-head, All-tail, All-append, filter-append}
 use Rattle.hist_lock.specs.History.{listed}
+use Rattle.kmem_model.specs.CacheScans.{is_scan, is_begin, is_idle_entry, scanning, ends_idle, is_round}
 use Rattle.kmem_model.specs.CacheCounts.{moves_begun, moves_ended, total}
 use Rattle.kmem_model.specs.declared.cache_entry.CacheEntry.{CacheEntry}
 use Rattle.kmem_model.specs.declared.cache_entry.CacheEntry.TheVariants.{Free, Scan, Begin, Idle}
@@ -13,15 +14,20 @@ use Rattle.kmem_cache.specs.Reaping.{HasFreedAll, HasReaped, rounds_in}
 use Rattle.kmem_cache.specs.Seats.{CacheSite, CacheSeatState}
 use Rattle.move_queue.specs.Queue.{QueueSeatState}
 use Rattle.consolidator.specs.Notes.{Notes, noted_all}
-use Rattle.consolidator.specs.Rounds.{is_scanning, IsBegin, IsEndOf, IsOfMoves, IsOfMover, IsRound, AreRounds}
-use Rattle.consolidator.specs.Works.{HasEntered, HasQueued, HasCarried, Work, HasWorked, Tried, IsTried, entries_of_try, scan_entries, HasScanned}
+use Rattle.consolidator.specs.Rounds.{IsEndOf, IsOfMoves, IsOfMover, IsRound, AreRounds}
+use Rattle.consolidator.specs.Works.{HasEntered, HasQueued, HasCarried, Work, HasWorked, Tried, IsTried, entries_of_try, entries_of_scan, HasScanned}
 use Rattle.consolidator.specs.Drives.{reap_room, HasRoom, HasDrained, HasRounds, HasReapedSeat, HasReapedIf, HasDriven, IsWholeDrive}
 use Rattle.consolidator.proofs.Working.{entered_same, worked_chain}
+use Rattle.consolidator.proofs.Joined.{rounds_whole, scans_whole}
 use Rattle.consolidator.proofs.Counts.{EndsOne, ends_one, ended_is, CameBack, came_back, one_little, all_little, HasCalmly, carried_calmly}
+
+-- what `scanning` keeps
+abbrev of_scans : CacheEntry → Bool
+of_scans = λ e. is_scan e || is_begin e || is_idle_entry e
 
 -- Rounds, one after another
 
-pub rounds_none : (desperate : Bool) (es : List CacheEntry) → filter is_scanning es ≡ [] → AreRounds desperate 0 es
+pub rounds_none : (desperate : Bool) (es : List CacheEntry) → scanning es ≡ [] → AreRounds desperate 0 es
 rounds_none desperate es calm = record { rounds = []; each = All-nil (IsRound desperate); many = refl; joined = calm }
 
 pub rounds_chain : (desperate : Bool) (m n : ℕ) (es fs : List CacheEntry) → AreRounds desperate m es → AreRounds desperate n fs → AreRounds desperate (m + n) (es ++ fs)
@@ -29,30 +35,50 @@ rounds_chain desperate m n es fs first second = record {
   rounds = first.rounds ++ second.rounds;
   each = All-append (IsRound desperate) first.rounds second.rounds first.each second.each;
   many = omega (arith, first.many, second.many, length-append first.rounds second.rounds);
-  joined = filter-append is_scanning es fs
-      ∙ (ap (λ l. l ++ filter is_scanning fs) first.joined
+  joined = filter-append of_scans es fs
+      ∙ (ap (λ l. l ++ scanning fs) first.joined
       ∙ (ap (λ l. flat_map (λ r. r) first.rounds ++ l) second.joined ∙ sym (flat_map-append (λ r. r) first.rounds second.rounds)));
 }
 
 -- The entries of a scan
 
-begin_of : Tried → CacheEntry
-begin_of t = Begin t.no t.from t.to
-
-calm_back : (j : ℕ) (back : Option CacheEntry) → IfSome back (IsEndOf j) → filter is_scanning (listed back) ≡ []
+calm_back : (j : ℕ) (back : Option CacheEntry) → IfSome back (IsEndOf j) → scanning (listed back) ≡ []
 calm_back j None is = refl
-calm_back j (Some e) is = let one = ends_one j e is in rw one.calm
+calm_back j (Some e) is = let one = ends_one j e is in one.calm
 
-begins_of : (moves : List Tried) → All IsTried moves → filter is_scanning (flat_map entries_of_try moves) ≡ map (λ t. Begin t.no t.from t.to) moves
+begins_of : (moves : List Tried) → All IsTried moves → scanning (flat_map entries_of_try moves) ≡ map (λ t. Begin t.no t.from t.to) moves
 begins_of [] each = refl
 begins_of (t ∷ ts) each =
-    filter-append is_scanning (entries_of_try t) (flat_map entries_of_try ts)
-    ∙ (ap (λ l. Begin t.no t.from t.to ∷ (l ++ filter is_scanning (flat_map entries_of_try ts))) (calm_back t.no t.back (All-head IsTried t ts each))
+    filter-append of_scans (entries_of_try t) (flat_map entries_of_try ts)
+    ∙ (ap (λ l. Begin t.no t.from t.to ∷ (l ++ scanning (flat_map entries_of_try ts))) (calm_back t.no t.back (All-head IsTried t ts each))
     ∙ ap (λ l. Begin t.no t.from t.to ∷ l) (begins_of ts (All-tail IsTried t ts each)))
 
-all_begin : (moves : List Tried) → All IsBegin (map (λ t. Begin t.no t.from t.to) moves)
-all_begin [] = All-nil IsBegin
-all_begin (t ∷ ts) = All-cons IsBegin (Begin t.no t.from t.to) (map (λ t. Begin t.no t.from t.to) ts) tt (all_begin ts)
+ends_here : (moves : List Tried) → ends_idle (map (λ t. Begin t.no t.from t.to) moves ++ Idle ∷ []) ≡ true
+ends_here [] = refl
+ends_here (t ∷ []) = refl
+ends_here (t ∷ (u ∷ ts)) = ends_here (u ∷ ts)
+
+all_begin : (moves : List Tried) → list_all is_begin (map (λ t. Begin t.no t.from t.to) moves) ≡ true
+all_begin [] = refl
+all_begin (t ∷ ts) = all_begin ts
+
+or_true : (a b : Bool) → b ≡ true → (a || b) ≡ true
+or_true true b is = refl
+or_true false b is = is
+
+-- what one scan begins is a round
+begun_round : (moves : List Tried) (last : List CacheEntry) → ((last ≡ Idle ∷ []) × (length moves < 64)) ⊎ ((last ≡ []) × (length moves ≡ 64)) →
+    is_round (map (λ t. Begin t.no t.from t.to) moves ++ last) ≡ true
+begun_round moves last ended =
+    let begun = map (λ t. Begin t.no t.from t.to) moves in
+    ⊎_elim
+    (λ (is : (last ≡ Idle ∷ []) × (length moves < 64)).
+    subst (λ l. is_round (begun ++ l) ≡ true) (sym is.0) (ap (λ b. b || (list_all is_begin (begun ++ Idle ∷ []) && length (begun ++ Idle ∷ []) == 64)) (ends_here moves)))
+    (λ (is : (last ≡ []) × (length moves ≡ 64)).
+    subst (λ l. is_round l ≡ true) (sym (ap (λ l. begun ++ l) is.0 ∙ append-nil begun))
+    (or_true (ends_idle begun) (list_all is_begin begun && length begun == 64)
+    (ap (λ b. b && length begun == 64) (all_begin moves) ∙ ap (λ n. n == 64) (length-map moves (λ t. Begin t.no t.from t.to) ∙ is.1))))
+    ended
 
 -- how many entries these moves have, and how many of them begin and end one
 record TriesCount (moves : List Tried) : Type 0 where
@@ -81,7 +107,7 @@ record LastCount (moves : List Tried) (last : List CacheEntry) : Type 0 where
   ended : total moves_ended last ≡ 0
   long : 2 * length moves + length last ≤ 128
   few : length moves ≤ 64
-  scanning : filter is_scanning last ≡ last
+  scanning : scanning last ≡ last
 
 last_count : (moves : List Tried) (last : List CacheEntry) → ((last ≡ Idle ∷ []) × (length moves < 64)) ⊎ ((last ≡ []) × (length moves ≡ 64)) → LastCount moves last
 last_count moves last ended = ⊎_elim
@@ -91,7 +117,7 @@ last_count moves last ended = ⊎_elim
       ended = ap (total moves_ended) is.0;
       long = omega (arith, is.1, ap length is.0);
       few = omega (arith, is.1);
-      scanning = ap (filter is_scanning) is.0 ∙ sym is.0;
+      scanning = ap (λ l. scanning l) is.0 ∙ sym is.0;
     })
     (λ (is : (last ≡ []) × (length moves ≡ 64)).
     record {
@@ -99,12 +125,12 @@ last_count moves last ended = ⊎_elim
       ended = ap (total moves_ended) is.0;
       long = omega (arith, is.1, ap length is.0);
       few = omega (arith, is.1);
-      scanning = ap (filter is_scanning) is.0 ∙ sym is.0;
+      scanning = ap (λ l. scanning l) is.0 ∙ sym is.0;
     })
     ended
 
 scan_moves : (desperate : Bool) (moves : List Tried) (last : List CacheEntry) → All IsTried moves → ((last ≡ Idle ∷ []) × (length moves < 64)) ⊎ ((last ≡ []) × (length moves ≡ 64)) →
-    All IsOfMoves (scan_entries desperate moves last)
+    All IsOfMoves (entries_of_scan desperate moves last)
 scan_moves desperate moves last each ended =
     All-cons IsOfMoves (Scan desperate) (flat_map entries_of_try moves ++ last) tt (All-append IsOfMoves (flat_map entries_of_try moves) last (tries moves each) (lasts last ended))
   where
@@ -125,33 +151,23 @@ scan_moves desperate moves last each ended =
         ended
 
 module _ {X : Type 0} where
-  scan_round : (desperate : Bool) (old new : Work X) (s : HasScanned desperate old new) → AreRounds desperate 1 (scan_entries desperate s.moves s.last)
+  scan_round : (desperate : Bool) (old new : Work X) (s : HasScanned desperate old new) → AreRounds desperate 1 (entries_of_scan desperate s.moves s.last)
   scan_round desperate old new s =
       let tries = flat_map entries_of_try s.moves in let begun = map (λ t. Begin t.no t.from t.to) s.moves in let last = last_count s.moves s.last s.ended in
       let round = Scan desperate ∷ (begun ++ s.last) in
-      let many : length begun ≡ length s.moves = length-map s.moves (λ t. Begin t.no t.from t.to) in
-      let is : IsRound desperate round = record {
-        begun = begun;
-        last = s.last;
-        is = refl;
-        begins = all_begin s.moves;
-        ended = ⊎_elim
-            (λ (e : (s.last ≡ Idle ∷ []) × (length s.moves < 64)). inl (e.0, omega (arith, e.1, many)))
-            (λ (e : (s.last ≡ []) × (length s.moves ≡ 64)). inr (e.0, many ∙ e.1))
-            s.ended;
-      } in
+      let is : IsRound desperate round = record { rest = begun ++ s.last; is = refl; round = begun_round s.moves s.last s.ended } in
       record {
         rounds = round ∷ [];
         each = All-cons (IsRound desperate) round [] is (All-nil (IsRound desperate));
         many = refl;
-        joined = ap (λ l. Scan desperate ∷ l) (filter-append is_scanning tries s.last ∙ (ap (λ l. l ++ filter is_scanning s.last) (begins_of s.moves s.each) ∙ ap (λ l. begun ++ l) last.scanning))
+        joined = ap (λ l. Scan desperate ∷ l) (filter-append of_scans tries s.last ∙ (ap (λ l. l ++ scanning s.last) (begins_of s.moves s.each) ∙ ap (λ l. begun ++ l) last.scanning))
             ∙ sym (append-nil round);
       }
 
   -- a scan, and what was carried after it
   pub round_of : (desperate : Bool) (old mid new : Work X) → HasScanned desperate old mid → HasDrained mid new → HasRounds desperate 1 old new
   round_of desperate old mid new s drained =
-      let entries = scan_entries desperate s.moves s.last in
+      let entries = entries_of_scan desperate s.moves s.last in
       record {
         entries = entries ++ drained.entries;
         worked = worked_chain old mid new entries drained.entries s.worked drained.worked;
@@ -184,7 +200,7 @@ module _ {X : Type 0} where
     entries = first.entries ++ second.entries;
     worked = worked_chain a b c first.entries second.entries first.worked second.worked;
     moves = All-append IsOfMoves first.entries second.entries first.moves second.moves;
-    calm = filter-append is_scanning first.entries second.entries ∙ (ap (λ l. l ++ filter is_scanning second.entries) first.calm ∙ second.calm);
+    calm = filter-append of_scans first.entries second.entries ∙ (ap (λ l. l ++ scanning second.entries) first.calm ∙ second.calm);
   }
 
 -- Room
@@ -218,7 +234,7 @@ module _ {X : Type 0} (quotas scans others : ℕ) where
   pub room_scanned : (desperate : Bool) (old new : Work X) → HasScanned desperate old new → HasRoom quotas (scans + 1) others old → HasRoom quotas scans others new
   room_scanned desperate old new s room =
       let tries = flat_map entries_of_try s.moves in let count = tries_count s.moves s.each in let last = last_count s.moves s.last s.ended in
-      let entries = scan_entries desperate s.moves s.last in
+      let entries = entries_of_scan desperate s.moves s.last in
       let begun = total-app moves_begun tries s.last in let ended = total-app moves_ended tries s.last in let queued = s.worked.queued in
       let popped = ap length s.popped in let little = all_little entries old.notes in let noted = s.worked.entered.noted in
       record {
@@ -243,7 +259,7 @@ room_less quotas scans more others work room = record {
 
 -- Reaped magazines
 
-frees_calm : (ns : List ℕ) → filter is_scanning (frees_of ns) ≡ []
+frees_calm : (ns : List ℕ) → scanning (frees_of ns) ≡ []
 frees_calm [] = refl
 frees_calm (n ∷ ns) = frees_calm ns
 
@@ -273,7 +289,7 @@ rounds_long (m ∷ ms) all =
 pub record AfterReap {X : Type 0} (old new : Work X) (room : ℕ) : Type 0 where
   pub entries : List CacheEntry
   pub worked : HasWorked old new entries
-  pub calm : filter is_scanning entries ≡ []
+  pub calm : scanning entries ≡ []
   pub long : length entries ≤ room
 
 pub after_reap : {X : Type 0} (reaps : Bool) (places : ℕ) (old new : Work X) → HasReapedIf reaps places old new → AfterReap old new (reap_room reaps places)
@@ -329,15 +345,26 @@ module _ {X : Type 0} (quotas scans : ℕ) where
 pub whole_drive : {X : Type 0} (reaps : Bool) (places : ℕ) (desperate : Bool) (scans : ℕ) (old new : Work X) → HasDriven reaps places desperate scans old new → new.place.done ≡ true →
     IsWholeDrive desperate scans old new
 whole_drive reaps places desperate zero old new drained done =
-    record { entries = drained.entries; worked = drained.worked; rounds = rounds_none desperate drained.entries drained.calm; done = done }
+    let rounds = rounds_none desperate drained.entries drained.calm in
+    record {
+      entries = drained.entries;
+      worked = drained.worked;
+      scans_are = scans_whole desperate 0 drained.entries rounds;
+      rounds = rounds_whole desperate 0 drained.entries rounds;
+      done = done;
+    }
 whole_drive reaps places desperate (suc scans) old new driven done =
     let before = driven.0 in let after = driven.1 in let early = driven.2 in let reap = after_reap reaps places before after driven.3 in let late = driven.4 in
+    let entries = (early.entries ++ reap.entries) ++ late.entries in
+    let at : (scans + 0) + 1 ≡ suc scans = omega arith in
+    let rounds = subst (λ n. AreRounds desperate n entries) at
+    (rounds_chain desperate (scans + 0) 1 (early.entries ++ reap.entries) late.entries
+    (rounds_chain desperate scans 0 early.entries reap.entries early.rounds (rounds_none desperate reap.entries reap.calm)) late.rounds) in
     record {
-      entries = (early.entries ++ reap.entries) ++ late.entries;
+      entries = entries;
       worked = worked_chain old after new (early.entries ++ reap.entries) late.entries (worked_chain old before after early.entries reap.entries early.worked reap.worked) late.worked;
-      rounds = subst (λ n. AreRounds desperate n ((early.entries ++ reap.entries) ++ late.entries)) (omega arith)
-          (rounds_chain desperate (scans + 0) 1 (early.entries ++ reap.entries) late.entries
-          (rounds_chain desperate scans 0 early.entries reap.entries early.rounds (rounds_none desperate reap.entries reap.calm)) late.rounds);
+      scans_are = scans_whole desperate (suc scans) entries rounds;
+      rounds = rounds_whole desperate (suc scans) entries rounds;
       done = done;
     }
 

@@ -13,7 +13,7 @@ use Rattle.kmem_cache.specs.Seats.{CacheSite, CacheSeatState, HasActed}
 use Rattle.move_queue.specs.Queue.{QueueSeatState, HasPushed}
 use Rattle.consolidator.specs.Notes.{Notes, noted}
 use Rattle.consolidator.specs.Rounds.{IsEndOf}
-use Rattle.consolidator.specs.Works.{HasEntered, HasQueued, HasSameMagazines, HasFinished, Work, HasWorked, Tried, IsTried, entries_of_try, scan_entries, HasScanned}
+use Rattle.consolidator.specs.Works.{HasEntered, HasQueued, HasSameMagazines, HasFinished, Work, HasWorked, Tried, IsTried, entries_of_try, entries_of_scan, HasScanned}
 use Rattle.consolidator.specs.Tries.{HasPut, HasTried, IsWithin}
 use Rattle.consolidator.proofs.Working.{entered_chain, entered_one, entered_same, worked_chain}
 use Rattle.consolidator.proofs.Counts.{EndsOne, ends_one, ended_is, came_back, one_little}

@@ -1,9 +1,11 @@
 -- What a mover does in a whole run (this project's own).
-use Rattle.std.specs.Prelude.{◌≡◌, ℕ, zero, suc, ◌+◌, ◌*◌, ◌^◌, ◌≤◌, Bool, true, false, List, [], length, filter, All, if◌then◌else◌}
+use Rattle.std.specs.Prelude.{◌≡◌, ℕ, zero, suc, ◌+◌, ◌*◌, ◌^◌, ◌≤◌, Bool, true, false, List, [], length, filter, replicate, All, if◌then◌else◌}
+use Rattle.kmem_model.specs.CacheScans.{is_scan, scanning, has_rounds}
 use Rattle.kmem_model.specs.declared.cache_entry.CacheEntry.{CacheEntry}
+use Rattle.kmem_model.specs.declared.cache_entry.CacheEntry.TheVariants.{Scan}
 use Rattle.kmem_cache.specs.Reaping.{HasReaped}
 use Rattle.kmem_cache.specs.Seats.{CacheSeatState}
-use Rattle.consolidator.specs.Rounds.{is_scanning, AreRounds, IsOfMoves}
+use Rattle.consolidator.specs.Rounds.{AreRounds, IsOfMoves}
 use Rattle.consolidator.specs.Works.{Work, HasWorked}
 
 -- the entries of a reap, which may free a round of each full magazine
@@ -31,7 +33,7 @@ module _ {X : Type 0} where
     pub entries : List CacheEntry
     pub worked : HasWorked old new entries
     pub moves : All IsOfMoves entries
-    pub calm : filter is_scanning entries ≡ []
+    pub calm : scanning entries ≡ []
     pub done : new.place.done ≡ true
 
   -- so many scans were made, and after each of them jobs were carried until none came
@@ -51,9 +53,10 @@ module _ {X : Type 0} where
   HasDriven reaps places desperate (suc scans) old new =
       (before after : Work X) × HasRounds desperate scans old before × HasReapedIf reaps places before after × HasRounds desperate 1 after new
 
-  -- The whole of it: the entries of scans make as many rounds as there are scans, and the queue's seat found no job at last
+  -- The whole of it: there are so many Scan entries, all of this kind, each is followed by a round, and the queue's seat found no job at last
   pub record IsWholeDrive (desperate : Bool) (scans : ℕ) (old new : Work X) : Type 0 where
     pub entries : List CacheEntry
     pub worked : HasWorked old new entries
-    pub rounds : AreRounds desperate scans entries
+    pub scans_are : filter is_scan entries ≡ replicate scans (Scan desperate)
+    pub rounds : has_rounds (scanning entries) ≡ true
     pub done : new.place.done ≡ true

@@ -66,8 +66,8 @@ abbrev pub IsTried : Tried → Type 0
 IsTried t = IfSome t.back (IsEndOf t.no)
 
 -- the entries of a scan with these moves, and with these last ones
-abbrev pub scan_entries : Bool → List Tried → List CacheEntry → List CacheEntry
-scan_entries desperate moves last = Scan desperate ∷ (flat_map entries_of_try moves ++ last)
+abbrev pub entries_of_scan : Bool → List Tried → List CacheEntry → List CacheEntry
+entries_of_scan desperate moves last = Scan desperate ∷ (flat_map entries_of_try moves ++ last)
 
 -- the job was ended by one entry
 pub record HasFinished {X : Type 0} (site : CacheSite) (seat seat' : CacheSeatState) (before after : Notes) (job : JobState X) : Type 0 where
@@ -101,7 +101,7 @@ module _ {X : Type 0} where
     pub last : List CacheEntry
     pub each : All IsTried moves
     pub ended : ((last ≡ Idle ∷ []) × (length moves < 64)) ⊎ ((last ≡ []) × (length moves ≡ 64))
-    pub worked : HasWorked old new (scan_entries desperate moves last)
+    pub worked : HasWorked old new (entries_of_scan desperate moves last)
     pub popped : new.place.popped ≡ old.place.popped
     pub magazines : HasSameMagazines old.seat new.seat
 

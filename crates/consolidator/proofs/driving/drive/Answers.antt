@@ -6,6 +6,14 @@ use Rattle.consolidator.proofs.Counts.{balance_of, kept_of, given_of}
 use Rattle.consolidator.proofs.Rounding.{room_less, room_reaped, reaped_counts, reaped_work, whole_drive}
 use Rattle.consolidator.proofs.driving.drive.Goals as goal
 
+pub returns-then-plan-eq0-clause-whole : goal.returns-then-plan-eq0-clause-whole
+returns-then-plan-eq0-clause-whole g c =
+    let client = g.C.MoveClient in let now = work_by client.flags client.last client.answered client.brought client.fetched in
+    let old = now c.args.seat.now c.args.place.now c.args.tally.now c.args.client.now in
+    let new = now c.drain.new.seat c.drain.new.place c.drain.new.tally c.drain.new.client in let all = c.drain.ensures.drained in
+    let plan = c.args.plan.now in let places = c.args.cache.now.depot.places in let none : 0 ≡ plan.scans = omega arith in
+    subst (λ n. IsWholeDrive plan.desperate n old new) none (whole_drive plan.reaps places plan.desperate 0 old new all all.done)
+
 pub returns-then-plan-eq0-clause-kept : goal.returns-then-plan-eq0-clause-kept
 returns-then-plan-eq0-clause-kept g c =
     let client = g.C.MoveClient in let now = work_by client.flags client.last client.answered client.brought client.fetched in

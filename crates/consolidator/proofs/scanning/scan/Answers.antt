@@ -1,6 +1,6 @@
 use Rattle.std.proofs.Common.{◌≡◌, ◌+◌, ◌*◌, Bool, true, false, refl, subst, ap, ◌∙◌, arith}
 use Rattle.kmem_cache.specs.Seats.{CacheSeatState}
-use Rattle.consolidator.specs.Works.{work_by, scan_entries, HasScanned}
+use Rattle.consolidator.specs.Works.{work_by, entries_of_scan, HasScanned}
 use Rattle.consolidator.specs.Tries.{HasTried}
 use Rattle.consolidator.proofs.Counts.{balance_of, kept_of, given_of}
 use Rattle.consolidator.proofs.Trying.{HasTriedAll, tried_start, tried_more, scanned_idle, scanned_full}
@@ -61,7 +61,7 @@ returns-then-not-begin_one-clause-kept g c =
     let new = now c.begin_one.new.seat c.begin_one.new.place c.begin_one.new.tally c.begin_one.new.client in
     let tried = subst (λ (b : Bool). HasTried mid new b) c.if-not-begin_one.true c.begin_one.ensures.begun in
     let done = scanned_idle c.args.desperate c.loop-i._i old mid new c.loop-i.invariant.begun c.loop-i-test.true tried in
-    kept_of old new (scan_entries c.args.desperate done.moves done.last) done.worked
+    kept_of old new (entries_of_scan c.args.desperate done.moves done.last) done.worked
 
 pub returns-then-not-begin_one-clause-given : goal.returns-then-not-begin_one-clause-given
 returns-then-not-begin_one-clause-given g c =
@@ -71,7 +71,7 @@ returns-then-not-begin_one-clause-given g c =
     let new = now c.begin_one.new.seat c.begin_one.new.place c.begin_one.new.tally c.begin_one.new.client in
     let tried = subst (λ (b : Bool). HasTried mid new b) c.if-not-begin_one.true c.begin_one.ensures.begun in
     let done = scanned_idle c.args.desperate c.loop-i._i old mid new c.loop-i.invariant.begun c.loop-i-test.true tried in
-    given_of old new (scan_entries c.args.desperate done.moves done.last) done.worked
+    given_of old new (entries_of_scan c.args.desperate done.moves done.last) done.worked
 
 pub returns-then-not-begin_one-clause-balance : goal.returns-then-not-begin_one-clause-balance
 returns-then-not-begin_one-clause-balance g c =
@@ -81,7 +81,7 @@ returns-then-not-begin_one-clause-balance g c =
     let new = now c.begin_one.new.seat c.begin_one.new.place c.begin_one.new.tally c.begin_one.new.client in
     let tried = subst (λ (b : Bool). HasTried mid new b) c.if-not-begin_one.true c.begin_one.ensures.begun in
     let done = scanned_idle c.args.desperate c.loop-i._i old mid new c.loop-i.invariant.begun c.loop-i-test.true tried in
-    balance_of old new (scan_entries c.args.desperate done.moves done.last) done.worked
+    balance_of old new (entries_of_scan c.args.desperate done.moves done.last) done.worked
 
 pub returns-clause-scanned : goal.returns-clause-scanned
 returns-clause-scanned g c =
@@ -99,7 +99,7 @@ returns-clause-kept g c =
     let new = now c.loop-i.seat c.loop-i.place c.loop-i.tally c.loop-i.client in
     let at : c.loop-i._i ≡ 64 = omega (arith, c.loop-i-test.false, c.loop-i.auto._i-end) in
     let done = scanned_full c.args.desperate old new (subst (λ n. HasTriedAll c.args.desperate n old new) at c.loop-i.invariant.begun) in
-    kept_of old new (scan_entries c.args.desperate done.moves done.last) done.worked
+    kept_of old new (entries_of_scan c.args.desperate done.moves done.last) done.worked
 
 pub returns-clause-given : goal.returns-clause-given
 returns-clause-given g c =
@@ -108,7 +108,7 @@ returns-clause-given g c =
     let new = now c.loop-i.seat c.loop-i.place c.loop-i.tally c.loop-i.client in
     let at : c.loop-i._i ≡ 64 = omega (arith, c.loop-i-test.false, c.loop-i.auto._i-end) in
     let done = scanned_full c.args.desperate old new (subst (λ n. HasTriedAll c.args.desperate n old new) at c.loop-i.invariant.begun) in
-    given_of old new (scan_entries c.args.desperate done.moves done.last) done.worked
+    given_of old new (entries_of_scan c.args.desperate done.moves done.last) done.worked
 
 pub returns-clause-balance : goal.returns-clause-balance
 returns-clause-balance g c =
@@ -117,4 +117,4 @@ returns-clause-balance g c =
     let new = now c.loop-i.seat c.loop-i.place c.loop-i.tally c.loop-i.client in
     let at : c.loop-i._i ≡ 64 = omega (arith, c.loop-i-test.false, c.loop-i.auto._i-end) in
     let done = scanned_full c.args.desperate old new (subst (λ n. HasTriedAll c.args.desperate n old new) at c.loop-i.invariant.begun) in
-    balance_of old new (scan_entries c.args.desperate done.moves done.last) done.worked
+    balance_of old new (entries_of_scan c.args.desperate done.moves done.last) done.worked
