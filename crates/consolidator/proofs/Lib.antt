@@ -4,6 +4,7 @@ pub mod Sums
 pub mod Working
 pub mod Counts
 pub mod Trying
+pub mod Noting
 pub mod Joined
 pub mod Rounding
 pub mod Bench

@@ -1,5 +1,6 @@
 -- Counts of moves by how they ended (this project's own).
 use Rattle.std.specs.Prelude.{ℕ, ◌+◌, ◌-◌, ◌^◌, min, List, [], ◌∷◌}
+use Rattle.kmem_model.specs.Report.{MoveCounts}
 use Rattle.kmem_model.specs.Settle.{EndedMove}
 use Rattle.kmem_model.specs.declared.cache_entry.Said.{Said}
 use Rattle.kmem_model.specs.declared.cache_entry.Said.TheVariants.{Yes, No, Later, DontNeed, DontKnow}
@@ -57,3 +58,7 @@ counted_all t (move ∷ moves) = counted_all (counted t move.said) moves
 -- these moves alone
 abbrev pub tally_of : List EndedMove → Tally
 tally_of moves = counted_all (record { begun = 0; yes = 0; no = 0; later = 0; dont_need = 0; dont_know = 0; gone = 0 }) moves
+
+-- how the moves of a tally ended, as it is reported
+abbrev pub ends_of : Tally → MoveCounts
+ends_of t = record { yes = t.yes; no = t.no; later = t.later; dont_need = t.dont_need; dont_know = t.dont_know; gone = t.gone }

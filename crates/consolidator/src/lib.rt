@@ -11,7 +11,7 @@ mod tally;
 
 pub use carrying::carry;
 pub use driving::{MoverPlan, drive};
-pub use laws::law_tally;
+pub use laws::{law_notes, law_tally};
 pub use scanning::scan;
 pub use scans::settle;
 pub use tally::{add, no_moves};
