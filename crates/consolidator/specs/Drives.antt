@@ -51,9 +51,11 @@ module _ {X : Type 0} where
   abbrev pub HasDriven : Bool → ℕ → Bool → ℕ → Work X → Work X → Type 0
   HasDriven reaps places desperate zero old new = HasDrained old new
   HasDriven reaps places desperate (suc scans) old new =
-      (before after : Work X) × HasRounds desperate scans old before × HasReapedIf reaps places before after × HasRounds desperate 1 after new
+      (before after : Work X) × HasRounds desperate scans old before × HasReapedIf reaps places before after
+      × HasRounds desperate 1 after new
 
-  -- The whole of it: there are so many Scan entries, all of this kind, each is followed by a round, and the queue's seat found no job at last
+  -- The whole of it: there are so many Scan entries, all of this kind, each is followed by a round, and at last the queue's seat found no
+  -- job
   pub record IsWholeDrive (desperate : Bool) (scans : ℕ) (old new : Work X) : Type 0 where
     pub entries : List CacheEntry
     pub worked : HasWorked old new entries

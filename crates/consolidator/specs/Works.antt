@@ -45,7 +45,8 @@ WasOut site old new from =
     (history : List (ℕ × CacheEntry)) × IsFront old.seen history × IsFront history new.seen × IsOutAfter site.lock.home history from
 
 -- the entry ended the job: by Gone; or by an answer, and then its old buffer was out before the client was asked
-abbrev pub HasEnded : {X : Type 0} → CacheSite → PassState CacheEntry CacheHome → PassState CacheEntry CacheHome → JobState X → CacheEntry → Type 0
+abbrev pub HasEnded : {X : Type 0} → CacheSite → PassState CacheEntry CacheHome → PassState CacheEntry CacheHome → JobState X → CacheEntry →
+    Type 0
 HasEnded site old new job (Gone j) = j ≡ job.move.no
 HasEnded site old new job (End j said) = (j ≡ job.move.no) × WasOut site old new job.move.from
 HasEnded site old new job _ = ⊥
@@ -70,7 +71,8 @@ abbrev pub entries_of_scan : Bool → List Tried → List CacheEntry → List Ca
 entries_of_scan desperate moves last = Scan desperate ∷ (flat_map entries_of_try moves ++ last)
 
 -- the job was ended by one entry
-pub record HasFinished {X : Type 0} (site : CacheSite) (seat seat' : CacheSeatState) (before after : Notes) (job : JobState X) : Type 0 where
+pub record HasFinished {X : Type 0} (site : CacheSite) (seat seat' : CacheSeatState) (before after : Notes) (job : JobState X) :
+    Type 0 where
   pub entry : CacheEntry
   pub entered : HasEntered seat.pass seat'.pass before after (entry ∷ [])
   pub ended : HasEnded site seat.pass seat'.pass job entry

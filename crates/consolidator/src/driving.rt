@@ -1,6 +1,6 @@
 //! What a mover does in a whole run.
 
-ghost use Rattle.std.specs.Prelude.{◌≡◌, ◌+◌, ◌*◌, ◌<◌, ◌≤◌, ◌^◌, ℕ, true};
+ghost use Rattle.std.specs.Prelude.{◌≡◌, ◌+◌, ◌*◌, ◌<◌, ◌≤◌, ◌^◌, ℕ, length, true};
 ghost use Rattle.kmem_cache.specs.Seats.{buffers_at, IsCacheSeat};
 ghost use Rattle.move_queue.specs.Queue.{IsQueueSeat};
 ghost use Rattle.consolidator.specs.Works.{work_by, AreKept, CountsGiven, IsBalanced};
@@ -128,8 +128,8 @@ fn reap_if<K: Kind, R: Wait>(rt: &R, cache: &Cache<K>, seat: &mut CacheSeat<K>, 
     }
 }
 
-/// All that a mover does in a run: before each of its scans it calls the gate, by its own number and the scan's; it scans; and after that it
-/// carries until no job comes. Before its last scan it reaps full magazines, if it is to. Without a scan it carries until no job comes.
+/// All that a mover does in a run. Before each of its scans it calls the gate, by its own number and the scan's; it scans; and after that
+/// it carries until no job comes. Before its last scan it reaps full magazines, if it is to. Without a scan it carries until no job comes.
 pub fn drive<K: Kind, C: MoveClient<K>, R: Wait, G: Gate>(
     rt: &R,
     gate: &G,
@@ -144,14 +144,17 @@ pub fn drive<K: Kind, C: MoveClient<K>, R: Wait, G: Gate>(
     requires never { K.never_refuses ≡ true }
     requires of { IsCacheSeat cache.now seat.old × IsQueueSeat queue.now place.old }
     requires room { let now = work_by C.flags C.last C.answered C.brought C.fetched in
-        HasRoom queue.now.terms.quotas plan.now.scans (reap_room plan.now.reaps cache.now.depot.places) (now seat.old place.old tally.old client.old) }
+        HasRoom queue.now.terms.quotas plan.now.scans (reap_room plan.now.reaps cache.now.depot.places)
+        (now seat.old place.old tally.old client.old) }
     requires homes { (queue.now.terms.home ≡ buffers_at cache.now) × (C.home client.old ≡ buffers_at cache.now) }
     requires numbers { plan.now.first + 2 * plan.now.scans < 2 ^ 32 }
     ensures driven { let now = work_by C.flags C.last C.answered C.brought C.fetched in
         HasDriven plan.now.reaps cache.now.depot.places plan.now.desperate plan.now.scans (now seat.old place.old tally.old client.old)
         (now seat.new place.new tally.new client.new) }
     ensures whole { let now = work_by C.flags C.last C.answered C.brought C.fetched in
-        IsWholeDrive plan.now.desperate plan.now.scans (now seat.old place.old tally.old client.old) (now seat.new place.new tally.new client.new) }
+        IsWholeDrive plan.now.desperate plan.now.scans (now seat.old place.old tally.old client.old)
+        (now seat.new place.new tally.new client.new) }
+    ensures few { length place.new.popped ≤ queue.now.terms.quotas }
     ensures of { IsCacheSeat cache.now seat.new × IsQueueSeat queue.now place.new }
     ensures stays { (C.home client.new ≡ C.home client.old) × (C.sign client.new ≡ C.sign client.old) }
     ensures kept { AreKept (C.flags client.old) (C.flags client.new) }

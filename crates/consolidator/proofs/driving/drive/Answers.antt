@@ -147,3 +147,21 @@ returns-clause-balance g c =
     let many : suc (c.args.plan.now.scans - 1) ≡ plan.scans = omega arith in
     let whole = whole_drive plan.reaps places plan.desperate (suc (c.args.plan.now.scans - 1)) old new driven c.scan_and_drain.ensures.done in
     balance_of old new whole.entries whole.worked
+
+pub returns-then-plan-eq0-clause-few : goal.returns-then-plan-eq0-clause-few
+returns-then-plan-eq0-clause-few g c =
+    let plan = c.args.plan.now in (c.drain.ensures.room plan.scans (reap_room plan.reaps c.args.cache.now.depot.places) c.requires.room).few
+
+pub returns-clause-few : goal.returns-clause-few
+returns-clause-few g c =
+    let client = g.C.MoveClient in let now = work_by client.flags client.last client.answered client.brought client.fetched in
+    let old = now c.args.seat.now c.args.place.now c.args.tally.now c.args.client.now in
+    let before = now c.make_scans.new.seat c.make_scans.new.place c.make_scans.new.tally c.make_scans.new.client in
+    let plan = c.args.plan.now in let quotas = c.args.queue.now.terms.quotas in let places = c.args.cache.now.depot.places in
+    let many : plan.scans ≡ 1 + (c.args.plan.now.scans - 1) = omega arith in
+    let room = c.make_scans.ensures.room 1 (reap_room plan.reaps places) (subst (λ n. HasRoom quotas n (reap_room plan.reaps places) old) many c.requires.room) in
+    let after = now c.reap_if.new.seat c.make_scans.new.place c.make_scans.new.tally c.make_scans.new.client in
+    let counts = reaped_counts plan.reaps places before.seat after.seat c.reap_if.ensures.reaped in
+    let reaped = reaped_work plan.reaps places before after c.reap_if.ensures.reaped refl
+    (notes_are after.notes before.notes counts.lent counts.returned refl refl refl refl refl refl) in
+    (c.scan_and_drain.ensures.room 0 0 (room_reaped quotas 1 plan.reaps places before after reaped room)).few
