@@ -5,4 +5,5 @@ pub mod Rounds
 pub mod Works
 pub mod Tries
 pub mod Drives
+pub mod Keepers
 pub mod Bench
