@@ -1,5 +1,5 @@
 -- What the entries of a mover say of the counts of its work.
-use Rattle.std.proofs.Common.{◌≡◌, ℕ, ◌+◌, ◌≤◌, Bool, true, false, List, [], ◌∷◌, ◌++◌, length, All, IfSome, Option, Some, None, filter, refl, sym, ap, ◌∙◌, subst, arith, length-append}
+use Rattle.std.proofs.Common.{◌≡◌, ℕ, ◌+◌, ◌≤◌, Bool, true, false, List, [], ◌∷◌, length, All, IfSome, Option, Some, None, refl, sym, ap, ◌∙◌, subst, arith, length-append}
 use Rattle.std.proofs.lemmas.List.Elements.{All-nil, All-cons}
 use Rattle.hist_lock.specs.History.{listed}
 use Rattle.hist_lock.specs.Passes.{PassState}
@@ -8,7 +8,6 @@ use Rattle.kmem_model.specs.CacheScans.{scanning}
 use Rattle.kmem_model.specs.CacheCounts.{moves_begun, moves_ended, total}
 use Rattle.kmem_model.specs.declared.cache_entry.CacheEntry.{CacheEntry}
 use Rattle.kmem_model.specs.declared.cache_entry.CacheEntry.TheVariants.{Alloc, Full, Free, Scan, Begin, Idle, Gone, End, Forget}
-use Rattle.kmem_model.specs.declared.cache_entry.Said.{Said}
 use Rattle.kmem_model.specs.declared.cache_entry.Said.TheVariants.{Yes, No, Later, DontNeed, DontKnow}
 use Rattle.object_cache.specs.Moves.{JobState}
 use Rattle.object_cache.specs.declared.tally.Tally.{Tally}
@@ -17,7 +16,7 @@ use Rattle.kmem_cache.specs.Seats.{CacheSite}
 use Rattle.move_queue.specs.Queue.{QueueSeatState, HasPopped}
 use Rattle.consolidator.specs.Notes.{Notes, noted, noted_all}
 use Rattle.consolidator.specs.Rounds.{IsEndOf, IsOfMoves}
-use Rattle.consolidator.specs.Works.{HasEnded, HasQueued, HasCarried, Work, HasWorked, Tried, IsTried, entries_of_try, AreKept, CountsGiven, IsBalanced}
+use Rattle.consolidator.specs.Works.{HasEnded, HasQueued, HasCarried, Work, HasWorked, AreKept, CountsGiven, IsBalanced}
 use Rattle.consolidator.proofs.Working.{entered_same}
 
 -- The entry that ends a job

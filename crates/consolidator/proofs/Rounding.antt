@@ -1,5 +1,5 @@
 -- A mover's rounds, and the room that they leave.
-use Rattle.std.proofs.Common.{◌≡◌, ℕ, zero, suc, ◌+◌, ◌*◌, ◌^◌, ◌<◌, ◌≤◌, ◌⊎◌, ⊎_elim, Bool, true, false, ◌||◌, ◌&&◌, ◌==◌, List, [], ◌∷◌, ◌++◌, length, map, filter, All, IfSome, Option, Some, None, refl, sym, ap, ◌∙◌, subst, inl, inr, arith, append_assoc, length-append}
+use Rattle.std.proofs.Common.{◌≡◌, ℕ, zero, suc, ◌+◌, ◌*◌, ◌<◌, ◌≤◌, ◌⊎◌, ⊎_elim, Bool, true, false, ◌||◌, ◌&&◌, ◌==◌, List, [], ◌∷◌, ◌++◌, length, map, All, IfSome, Option, Some, None, refl, sym, ap, ◌∙◌, subst, arith, length-append}
 use Rattle.std.specs.List.{flat_map, list_all}
 use Rattle.std.proofs.lemmas.List.{append-nil, length-map}
 use Rattle.std.proofs.lemmas.List.Concat.{flat_map-append}
@@ -10,16 +10,16 @@ use Rattle.kmem_model.specs.CacheCounts.{moves_begun, moves_ended, total}
 use Rattle.kmem_model.specs.declared.cache_entry.CacheEntry.{CacheEntry}
 use Rattle.kmem_model.specs.declared.cache_entry.CacheEntry.TheVariants.{Free, Scan, Begin, Idle}
 use Rattle.kmem_cache.specs.Closing.{frees_of}
-use Rattle.kmem_cache.specs.Reaping.{HasFreedAll, HasReaped, rounds_in}
+use Rattle.kmem_cache.specs.Reaping.{rounds_in}
 use Rattle.kmem_cache.specs.Seats.{CacheSite, CacheSeatState}
 use Rattle.move_queue.specs.Queue.{QueueSeatState}
 use Rattle.consolidator.specs.Notes.{Notes, noted_all}
 use Rattle.consolidator.specs.Rounds.{IsEndOf, IsOfMoves, IsOfMover, IsRound, AreRounds}
-use Rattle.consolidator.specs.Works.{HasEntered, HasQueued, HasCarried, Work, HasWorked, Tried, IsTried, entries_of_try, entries_of_scan, HasScanned}
+use Rattle.consolidator.specs.Works.{HasCarried, Work, HasWorked, Tried, IsTried, entries_of_try, entries_of_scan, HasScanned}
 use Rattle.consolidator.specs.Drives.{reap_room, HasRoom, HasDrained, HasRounds, HasReapedSeat, HasReapedIf, HasDriven, IsWholeDrive}
 use Rattle.consolidator.proofs.Working.{entered_same, worked_chain}
 use Rattle.consolidator.proofs.Joined.{rounds_whole, scans_whole}
-use Rattle.consolidator.proofs.Counts.{EndsOne, ends_one, ended_is, CameBack, came_back, one_little, all_little, HasCalmly, carried_calmly}
+use Rattle.consolidator.proofs.Counts.{ends_one, ended_is, came_back, one_little, all_little, HasCalmly, carried_calmly}
 
 -- what `scanning` keeps
 abbrev of_scans : CacheEntry → Bool

@@ -1,22 +1,21 @@
 -- The moves of a scan, one after another.
-use Rattle.std.proofs.Common.{◌≡◌, ℕ, ◌+◌, ◌-◌, ◌≤◌, ◌<◌, ◌⊎◌, Bool, true, false, List, [], ◌∷◌, ◌++◌, length, All, IfSome, Option, Some, None, refl, sym, ap, ◌∙◌, subst, inl, inr, arith, append_assoc, length-append}
+use Rattle.std.proofs.Common.{◌≡◌, ℕ, ◌+◌, ◌≤◌, ◌<◌, Bool, true, false, List, [], ◌∷◌, ◌++◌, length, All, Some, None, refl, sym, ap, ◌∙◌, subst, inl, inr, arith, length-append}
 use Rattle.std.specs.List.{flat_map}
 use Rattle.std.proofs.lemmas.List.{append-nil}
 use Rattle.std.proofs.lemmas.List.Concat.{flat_map-append}
 use Rattle.std.proofs.lemmas.List.Elements.{All-nil, All-cons, All-append}
 use Rattle.hist_lock.specs.History.{listed}
-use Rattle.kmem_model.specs.CacheCounts.{moves_begun, moves_ended, total}
 use Rattle.kmem_model.specs.declared.cache_entry.CacheEntry.{CacheEntry}
 use Rattle.kmem_model.specs.declared.cache_entry.CacheEntry.TheVariants.{Scan, Begin, Idle}
 use Rattle.object_cache.specs.Moves.{JobState}
 use Rattle.kmem_cache.specs.Seats.{CacheSite, CacheSeatState, HasActed}
-use Rattle.move_queue.specs.Queue.{QueueSeatState, HasPushed}
+use Rattle.move_queue.specs.Queue.{HasPushed}
 use Rattle.consolidator.specs.Notes.{Notes, noted}
 use Rattle.consolidator.specs.Rounds.{IsEndOf}
-use Rattle.consolidator.specs.Works.{HasEntered, HasQueued, HasSameMagazines, HasFinished, Work, HasWorked, Tried, IsTried, entries_of_try, entries_of_scan, HasScanned}
-use Rattle.consolidator.specs.Tries.{HasPut, HasTried, IsWithin}
+use Rattle.consolidator.specs.Works.{HasQueued, HasSameMagazines, HasFinished, Work, HasWorked, Tried, IsTried, entries_of_try, HasScanned}
+use Rattle.consolidator.specs.Tries.{HasPut, HasTried}
 use Rattle.consolidator.proofs.Working.{entered_chain, entered_one, entered_same, worked_chain}
-use Rattle.consolidator.proofs.Counts.{EndsOne, ends_one, ended_is, came_back, one_little}
+use Rattle.consolidator.proofs.Counts.{ends_one, ended_is, came_back, one_little}
 
 -- One move
 

@@ -1,8 +1,8 @@
 -- A mover's entries, one after another.
-use Rattle.std.proofs.Common.{◌≡◌, ℕ, ◌+◌, ◌%◌, ◌^◌, ◌≤◌, List, [], ◌∷◌, ◌++◌, length, All, Option, Some, None, refl, sym, ap, ◌∙◌, subst, arith, append_assoc, length-append}
+use Rattle.std.proofs.Common.{◌≡◌, ℕ, ◌+◌, List, [], ◌∷◌, ◌++◌, Option, Some, None, refl, sym, ap, ◌∙◌, subst, arith, append_assoc, length-append}
 use Rattle.std.proofs.lemmas.List.{append-nil}
 use Rattle.std.proofs.lemmas.List.Elements.{All-nil, All-cons, All-append}
-use Rattle.hist_lock.specs.History.{IsFront, listed}
+use Rattle.hist_lock.specs.History.{IsFront}
 use Rattle.hist_lock.specs.Passes.{PassState}
 use Rattle.kmem_answers.specs.Words.{said_of}
 use Rattle.kmem_buf.specs.Answers.{Flags}
@@ -10,7 +10,7 @@ use Rattle.kmem_buf.specs.declared.client.Verdict.{Verdict}
 use Rattle.kmem_buf.specs.declared.client.Verdict.TheVariants as verdict
 use Rattle.kmem_model.specs.CacheCounts.{handed_by, moves_begun, moves_ended, total}
 use Rattle.kmem_model.specs.declared.cache_entry.CacheEntry.{CacheEntry}
-use Rattle.kmem_model.specs.declared.cache_entry.CacheEntry.TheVariants.{Gone, End}
+use Rattle.kmem_model.specs.declared.cache_entry.CacheEntry.TheVariants.{End}
 use Rattle.kmem_model.specs.declared.cache_entry.Said.{Said}
 use Rattle.object_cache.specs.Moves.{JobState}
 use Rattle.object_cache.specs.declared.tally.Tally.{Tally}
@@ -20,7 +20,7 @@ use Rattle.kmem_cache.specs.Seats.{CacheSite, CacheSeatState, HasActed}
 use Rattle.move_queue.specs.Queue.{QueueSeatState}
 use Rattle.consolidator.specs.Notes.{Notes, verdict_in, noted, noted_all}
 use Rattle.consolidator.specs.Rounds.{IsOfMover}
-use Rattle.consolidator.specs.Works.{HasEntered, HasQueued, HasEnded, HasFinished, Work, HasWorked}
+use Rattle.consolidator.specs.Works.{HasEntered, HasQueued, HasFinished, Work, HasWorked}
 
 pub verdict_said : (v : Verdict) → verdict_in (said_of v) ≡ v
 verdict_said verdict.Yes = refl

@@ -1,5 +1,5 @@
 -- One move of a scan.
-use Rattle.std.specs.Prelude.{◌≡◌, ℕ, ◌+◌, ◌≤◌, Bool, true, false, List, [], ◌∷◌, length, Option, IfSome}
+use Rattle.std.specs.Prelude.{◌≡◌, ℕ, ◌+◌, ◌≤◌, Bool, true, false, [], ◌∷◌, length, Option, IfSome}
 use Rattle.hist_lock.specs.History.{listed}
 use Rattle.kmem_model.specs.declared.cache_entry.CacheEntry.{CacheEntry}
 use Rattle.kmem_model.specs.declared.cache_entry.CacheEntry.TheVariants.{Idle}

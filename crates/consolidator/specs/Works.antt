@@ -1,5 +1,5 @@
 -- What a scan does, and what it is to carry out a job (this project's own).
-use Rattle.std.specs.Prelude.{◌≡◌, ◌⊎◌, ℕ, ◌+◌, ◌<◌, Bool, true, false, List, [], ◌∷◌, ◌++◌, length, map, All, Option, IfSome}
+use Rattle.std.specs.Prelude.{◌≡◌, ◌⊎◌, ℕ, ◌+◌, ◌<◌, Bool, true, false, List, [], ◌∷◌, ◌++◌, length, All, Option, IfSome}
 use Rattle.std.specs.List.{flat_map}
 use Rattle.hist_lock.specs.History.{IsFront, listed}
 use Rattle.hist_lock.specs.Passes.{PassState}

@@ -1,6 +1,6 @@
-use Rattle.std.proofs.Common.{◌≡◌, true, false, ap}
-use Rattle.consolidator.specs.Works.{work_by, Work, HasCarried}
-use Rattle.consolidator.proofs.Counts.{HasCalmly, carried_calmly, balance_of, kept_of, given_of}
+use Rattle.std.proofs.Common.{true}
+use Rattle.consolidator.specs.Works.{work_by}
+use Rattle.consolidator.proofs.Counts.{carried_calmly, balance_of, kept_of, given_of}
 use Rattle.consolidator.proofs.carrying.carry.Goals as goal
 use Rattle.consolidator.proofs.carrying.carry.Goals.{After-finish}
 

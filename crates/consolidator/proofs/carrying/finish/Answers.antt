@@ -1,4 +1,4 @@
-use Rattle.std.proofs.Common.{◌≡◌, ◌+◌, Option, None, Some, ap, ◌∙◌, sym, subst}
+use Rattle.std.proofs.Common.{◌+◌, Option, Some, ap, ◌∙◌, sym, subst}
 use Rattle.kmem_answers.specs.Words.{said_of}
 use Rattle.kmem_buf.specs.Answers.{verdict_of, flagged, brought_by, fetched_by}
 use Rattle.kmem_buf.specs.declared.client.Verdict.{Verdict}

@@ -1,7 +1,6 @@
-use Rattle.std.proofs.Common.{◌≡◌, ◌+◌, ℕ, Bool, true, false, refl, subst, ◌∙◌}
+use Rattle.std.proofs.Common.{Bool, true, false, refl, subst, ◌∙◌}
 use Rattle.consolidator.specs.Works.{work_by, HasCarried}
-use Rattle.consolidator.specs.Drives.{HasRoom}
-use Rattle.consolidator.proofs.Counts.{HasCalmly, carried_calmly}
+use Rattle.consolidator.proofs.Counts.{carried_calmly}
 use Rattle.consolidator.proofs.Rounding.{calm_same, calm_chain, room_carried, drained_of}
 use Rattle.consolidator.proofs.driving.drain.Goals as goal
 

@@ -1,4 +1,4 @@
-use Rattle.std.proofs.Common.{◌≡◌, ◌-◌, ◌≤◌, ℕ, length}
+use Rattle.std.proofs.Common.{◌≡◌, ◌-◌, ℕ, length}
 use Rattle.kmem_cache.specs.Seats.{IsCacheSeat}
 use Rattle.move_queue.specs.Queue.{IsQueueSeat}
 use Rattle.consolidator.specs.Works.{work_by}

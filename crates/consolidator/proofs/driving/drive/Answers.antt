@@ -1,9 +1,9 @@
-use Rattle.std.proofs.Common.{◌≡◌, ◌+◌, ◌-◌, ℕ, suc, refl, sym, subst, arith}
+use Rattle.std.proofs.Common.{◌≡◌, ◌+◌, ◌-◌, suc, refl, subst, arith}
 use Rattle.consolidator.specs.Works.{work_by}
 use Rattle.consolidator.specs.Drives.{reap_room, HasRoom, HasDriven, IsWholeDrive}
 use Rattle.consolidator.proofs.Working.{notes_are}
 use Rattle.consolidator.proofs.Counts.{balance_of, kept_of, given_of}
-use Rattle.consolidator.proofs.Rounding.{room_less, room_reaped, reaped_counts, reaped_work, whole_drive}
+use Rattle.consolidator.proofs.Rounding.{room_reaped, reaped_counts, reaped_work, whole_drive}
 use Rattle.consolidator.proofs.driving.drive.Goals as goal
 
 pub returns-then-plan-eq0-clause-whole : goal.returns-then-plan-eq0-clause-whole

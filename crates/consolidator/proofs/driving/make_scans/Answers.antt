@@ -1,6 +1,6 @@
-use Rattle.std.proofs.Common.{◌≡◌, ◌+◌, ◌-◌, ℕ, refl, subst, ◌∙◌, arith}
+use Rattle.std.proofs.Common.{◌≡◌, ◌+◌, ◌-◌, refl, subst, ◌∙◌, arith}
 use Rattle.consolidator.specs.Works.{work_by}
-use Rattle.consolidator.specs.Drives.{HasRoom, HasRounds}
+use Rattle.consolidator.specs.Drives.{HasRoom}
 use Rattle.consolidator.proofs.Rounding.{no_rounds, more_rounds, room_less}
 use Rattle.consolidator.proofs.driving.make_scans.Goals as goal
 

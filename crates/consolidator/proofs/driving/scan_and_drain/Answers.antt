@@ -1,6 +1,4 @@
-use Rattle.std.proofs.Common.{◌≡◌, ◌+◌, ℕ}
 use Rattle.consolidator.specs.Works.{work_by}
-use Rattle.consolidator.specs.Drives.{HasRoom}
 use Rattle.consolidator.proofs.Rounding.{round_of, room_scanned}
 use Rattle.consolidator.proofs.driving.scan_and_drain.Goals as goal
 

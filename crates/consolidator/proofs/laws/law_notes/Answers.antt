@@ -1,4 +1,4 @@
-use Rattle.std.proofs.Common.{◌≡◌, ℕ, ◌++◌, refl}
+use Rattle.std.proofs.Common.{◌≡◌, ℕ, refl}
 use Rattle.kmem_model.specs.CacheScans.{is_begin}
 use Rattle.kmem_model.specs.Report.{MoveCounts, is_yes, is_no, is_later, is_dont_need, is_dont_know, is_end_by, is_gone_entry}
 use Rattle.consolidator.proofs.Noting.{begun_noted, yes_noted, no_noted, later_noted, dont_need_noted, dont_know_noted, gone_noted, fresh_counted, both_counted}

@@ -1,4 +1,4 @@
-use Rattle.std.proofs.Common.{◌≡◌, ◌+◌, Option, refl, ap, subst}
+use Rattle.std.proofs.Common.{Option, refl, ap, subst}
 use Rattle.kmem_model.specs.declared.cache_entry.CacheEntry.{CacheEntry}
 use Rattle.kmem_model.specs.declared.cache_entry.CacheEntry.TheVariants.{Begin}
 use Rattle.kmem_cache.specs.Seats.{CacheSeatState, HasActed}

@@ -1,4 +1,4 @@
-use Rattle.std.proofs.Common.{◌≡◌, refl}
+use Rattle.std.proofs.Common.{refl}
 use Rattle.consolidator.specs.Works.{work_by}
 use Rattle.consolidator.proofs.Trying.{put_pushed, put_back}
 use Rattle.consolidator.proofs.scanning.put.Goals as goal

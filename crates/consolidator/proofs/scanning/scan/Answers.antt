@@ -1,6 +1,6 @@
-use Rattle.std.proofs.Common.{◌≡◌, ◌+◌, ◌*◌, Bool, true, false, refl, subst, ap, ◌∙◌, arith}
+use Rattle.std.proofs.Common.{◌≡◌, Bool, refl, subst, ap, ◌∙◌, arith}
 use Rattle.kmem_cache.specs.Seats.{CacheSeatState}
-use Rattle.consolidator.specs.Works.{work_by, entries_of_scan, HasScanned}
+use Rattle.consolidator.specs.Works.{work_by, entries_of_scan}
 use Rattle.consolidator.specs.Tries.{HasTried}
 use Rattle.consolidator.proofs.Counts.{balance_of, kept_of, given_of}
 use Rattle.consolidator.proofs.Trying.{HasTriedAll, tried_start, tried_more, scanned_idle, scanned_full}

@@ -1,5 +1,5 @@
 use Rattle.std.proofs.Common.{◌≡◌, ◌+◌, ◌*◌, ◌^◌, ◌<◌, ◌≤◌}
-use Rattle.kmem_cache.specs.Seats.{buffers_at, IsCacheSeat}
+use Rattle.kmem_cache.specs.Seats.{IsCacheSeat}
 use Rattle.move_queue.specs.Queue.{IsQueueSeat}
 use Rattle.consolidator.specs.Works.{work_by}
 use Rattle.consolidator.proofs.Trying.{HasTriedAll}
