@@ -1,4 +1,10 @@
 pub mod Within
 pub mod Turns
 pub mod Sums
+pub mod Working
+pub mod Counts
+pub mod Trying
+pub mod Noting
+pub mod Joined
+pub mod Rounding
 pub mod Bench

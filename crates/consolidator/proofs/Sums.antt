@@ -65,16 +65,16 @@ gone_by t DontKnow h = omega arith
 
 -- Numbers
 
-capped : (m cap : ℕ) → min m cap ≤ cap
+pub capped : (m cap : ℕ) → min m cap ≤ cap
 capped m cap = omega arith
 
-cap_twice : (a b c cap : ℕ) → min (min (a + b) cap + c) cap ≡ min (a + (b + c)) cap
+pub cap_twice : (a b c cap : ℕ) → min (min (a + b) cap + c) cap ≡ min (a + (b + c)) cap
 cap_twice a b c cap = omega arith
 
-cap_none : (a cap : ℕ) → a ≤ cap → a ≡ min (a + 0) cap
+pub cap_none : (a cap : ℕ) → a ≤ cap → a ≡ min (a + 0) cap
 cap_none a cap h = omega arith
 
-cap_part : (a b cap : ℕ) → min (a + b) cap ≡ min (a + min b cap) cap
+pub cap_part : (a b cap : ℕ) → min (a + b) cap ≡ min (a + min b cap) cap
 cap_part a b cap = omega arith
 
 -- All moves

@@ -2,7 +2,7 @@
 
 ghost use Rattle.std.specs.Prelude.{◌≡◌, []};
 ghost use Rattle.kmem_answers.specs.Words.{said_of};
-ghost use Rattle.consolidator.specs.Tallies.{counted, tally_of, tally_sum};
+ghost use Rattle.consolidator.specs.Tallies.{counted, tally_begun, tally_gone, tally_answered, tally_of, tally_sum};
 
 use kmem_buf::Verdict;
 use object_cache::Tally;
@@ -22,11 +22,24 @@ pub fn no_moves() -> Tally
     }
 }
 
-/// Counts a move that was begun and ended by this answer. A count that is at its greatest stays.
-pub fn count(tally: &mut Tally, verdict: Verdict)
-    ensures { tally.new ≡ counted tally.old (said_of verdict) }
+/// Counts a move that was begun. A count that is at its greatest stays, here and below.
+pub fn count_begun(tally: &mut Tally)
+    ensures { tally.new ≡ tally_begun tally.old }
 {
     tally.begun = tally.begun.saturating_add(1);
+}
+
+/// Counts a move that ended unasked.
+pub fn count_gone(tally: &mut Tally)
+    ensures { tally.new ≡ tally_gone tally.old }
+{
+    tally.gone = tally.gone.saturating_add(1);
+}
+
+/// Counts a move that ended by this answer.
+pub fn count_answer(tally: &mut Tally, verdict: Verdict)
+    ensures { tally.new ≡ tally_answered (said_of verdict) tally.old }
+{
     match verdict {
         Verdict::Yes => tally.yes = tally.yes.saturating_add(1),
         Verdict::No => tally.no = tally.no.saturating_add(1),
@@ -34,6 +47,14 @@ pub fn count(tally: &mut Tally, verdict: Verdict)
         Verdict::DontNeed => tally.dont_need = tally.dont_need.saturating_add(1),
         Verdict::DontKnow => tally.dont_know = tally.dont_know.saturating_add(1),
     }
+}
+
+/// Counts a move that was begun and ended by this answer.
+pub fn count(tally: &mut Tally, verdict: Verdict)
+    ensures { tally.new ≡ counted tally.old (said_of verdict) }
+{
+    count_begun(tally);
+    count_answer(tally, verdict);
 }
 
 /// Counts as many moves more as another tally does, by how they ended. A count that would pass its greatest stays there.

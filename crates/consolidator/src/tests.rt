@@ -12,6 +12,8 @@ use std::marker::Model;
 use std::test::Fail;
 use std::thread::{Threads, join};
 
+mod movers;
+
 // A cache of six slabs with eight buffers, and the records in them, with 48 names.
 #[derive(Drop)]
 struct Bench {
