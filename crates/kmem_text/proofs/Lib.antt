@@ -6,3 +6,4 @@ pub mod LaidOut
 pub mod Workers
 pub mod Used
 pub mod Reread
+pub mod Cut

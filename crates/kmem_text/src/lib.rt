@@ -18,6 +18,7 @@ mod words;
 pub use bytes::{CARRIAGE_RETURN, COMMENT_SIGN, LINE_FEED, SPACE, TAB};
 pub use command::{Command, Line, NameId, Reply, Script, Tag};
 pub use laws::{law_layout, law_written};
+pub use lines::cut_line;
 pub use number::number_within;
 pub use reading::read_reply;
 pub use reply::write_reply;
