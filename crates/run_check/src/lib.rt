@@ -1,0 +1,15 @@
+//! Checking a printed run against its script: whether each reply is one that the records give along the history.
+#![tactic(auto)]
+
+mod fault;
+mod history;
+mod lines;
+mod places;
+mod plain_map;
+mod replies;
+mod share;
+mod stepping;
+mod taking;
+mod told;
+
+pub use fault::Fault;
