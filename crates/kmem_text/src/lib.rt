@@ -20,7 +20,7 @@ pub use command::{Command, Line, NameId, Reply, Script, Tag};
 pub use laws::{law_layout, law_written};
 pub use lines::cut_line;
 pub use number::number_within;
-pub use reading::read_reply;
+pub use reading::{law_reread, read_reply};
 pub use reply::write_reply;
 pub use script::{ScriptError, read_script};
 pub use spelling::{LineFault, Spelled, SpelledLine};

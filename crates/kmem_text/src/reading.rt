@@ -1,6 +1,6 @@
 //! Replies read back from their texts.
 
-ghost use Rattle.std.specs.Prelude.{◌≡◌, ◌<◌, ◌^◌, ◌↔◌, length, Some, IfSome};
+ghost use Rattle.std.specs.Prelude.{◌≡◌, ◌<◌, ◌^◌, ◌↔◌, ℕ, List, length, Some, IfSome};
 ghost use Rattle.std.specs.List.Sorted.{IsStrictlySortedBy};
 ghost use Rattle.std.specs.Cmp.Lexicographic.{slice_cmp};
 ghost use Rattle.std.specs.Ordering.{nat_cmp};
@@ -23,6 +23,13 @@ pub fn read_reply(script: &Script, command: &Command, text: &[u8]) -> Option<Rep
         None
     }
 }
+
+/// A reply's text tells the reply, among those that a command may have.
+pub fn law_reread()
+    ensures { (names : List (List ℕ)) (command : Command) (reply other : Reply) → IsStrictlySortedBy (slice_cmp nat_cmp) names →
+        IsReplyTo (length names) command reply → IsReplyTo (length names) command other →
+        reply_text names reply ≡ reply_text names other → reply ≡ other }
+{}
 
 /// The command may have the reply, whatever the records are.
 fn may_reply(command: &Command, reply: &Reply) -> bool
