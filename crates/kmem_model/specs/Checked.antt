@@ -125,21 +125,22 @@ pub record MayStand (workers : ℕ) (script : Plain) (run : List (List ℕ)) (n 
 abbrev pub StandUpTo : ℕ → Plain → List (List ℕ) → ℕ → Type 0
 StandUpTo workers script run count = (i : ℕ) → i < count → MayStand workers script run (length script.lines) i
 
+-- the first of the run's lines that may not stand there, or is missing, has this number, where so many lines stand before the run
+abbrev pub IsFirstRefused : ℕ → Plain → List (List ℕ) → ℕ → ℕ → Type 0
+IsFirstRefused workers script run before line =
+    let n = length script.lines in
+    (i : ℕ) × (line ≡ before + i + 1) × (i < 4 + n + n) × StandUpTo workers script run i × (MayStand workers script run n i → ⊥)
+
 -- the input has no illegal line: each of the run's lines up to its report may stand there
 abbrev pub HasNoIllegal : ℕ → List ℕ → Type 0
 HasNoIllegal workers bytes =
     let script = checked_script workers bytes in
-    let n = length script.lines in
-    StandUpTo workers script (run_part (lines_of bytes)) (4 + n + n)
+    StandUpTo workers script (run_part (lines_of bytes)) (4 + length script.lines + length script.lines)
 
--- the first illegal line, counted from the first line of the input: the first of the run that may not stand there, or is missing
+-- the first illegal line, counted from the first line of the input
 abbrev pub IsFirstIllegal : ℕ → List ℕ → ℕ → Type 0
 IsFirstIllegal workers bytes line =
-    let script = checked_script workers bytes in
-    let run = run_part (lines_of bytes) in
-    let n = length script.lines in
-    (i : ℕ) × (line ≡ script_len (lines_of bytes) + i + 1) × (i < 4 + n + n)
-    × StandUpTo workers script run i × (MayStand workers script run n i → ⊥)
+    IsFirstRefused workers (checked_script workers bytes) (run_part (lines_of bytes)) (script_len (lines_of bytes)) line
 
 -- the lines from `=== run` to `=== report` are those that are printed for a history of the script
 pub record TellsHistory (workers : ℕ) (script : Plain) (run : List (List ℕ)) : Type 0 where

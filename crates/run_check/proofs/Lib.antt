@@ -5,3 +5,10 @@ pub mod Mirrors
 pub mod ShareLists
 pub mod Placed
 pub mod Replaying
+pub mod CutParts
+pub mod Standing
+pub mod Unique
+pub mod PlacesStand
+pub mod Totals
+pub mod Whole
+pub mod Walk

@@ -179,10 +179,10 @@ one_or_none : (e : ℕ × RecordEntry) (b : Bool) → map (λ (x : ℕ × Record
 one_or_none e true = refl
 one_or_none e false = refl
 
-not_itself : (p q : ℕ) → p ≢ q → (q == p) ≡ false
+pub not_itself : (p q : ℕ) → p ≢ q → (q == p) ≡ false
 not_itself p q other = elim (same_or_not q p) [ inl s ↦ absurd (other (sym s.0)) | inr s ↦ s.1 ]
 
-own_more : (pass : ℕ) (h : List (ℕ × RecordEntry)) (e : ℕ × RecordEntry) (b : Bool) → (e.0 == pass) ≡ b → own_entries pass (h ++ e ∷ []) ≡ own_entries pass h ++ cond b (e.1 ∷ []) []
+pub own_more : (pass : ℕ) (h : List (ℕ × RecordEntry)) (e : ℕ × RecordEntry) (b : Bool) → (e.0 == pass) ≡ b → own_entries pass (h ++ e ∷ []) ≡ own_entries pass h ++ cond b (e.1 ∷ []) []
 own_more pass [] e b is = ap (λ t. map (λ (x : ℕ × RecordEntry). x.1) (cond t (e ∷ []) [])) is ∙ one_or_none e b
 own_more pass (x ∷ h) e b is = elim (x.0 == pass) as (λ t. map (λ (y : ℕ × RecordEntry). y.1) (cond t (x ∷ filter (λ y. y.0 == pass) (h ++ e ∷ [])) (filter (λ y. y.0 == pass) (h ++ e ∷ []))) ≡ map (λ (y : ℕ × RecordEntry). y.1) (cond t (x ∷ filter (λ y. y.0 == pass) h) (filter (λ y. y.0 == pass) h)) ++ cond b (e.1 ∷ []) []) [
   | true ↦ ap (λ xs. x.1 ∷ xs) (own_more pass h e b is)

@@ -1,5 +1,5 @@
 -- Shares of passes: what they were told, and what comes next in them.
-use Rattle.std.proofs.Common.{◌≡◌, ◌≢◌, ◌==◌, ◌⊎◌, ℕ, ◌+◌, ◌<◌, ◌≤◌, zero, suc, Bool, true, false, cond, Result, Err, IfErr, List, [], ◌∷◌, ◌++◌, map, length, get_or, drop, refl, sym, ap, ◌∙◌, subst, arith, inl, inr, length-append, append_assoc, append-nil}
+use Rattle.std.proofs.Common.{◌≡◌, ◌≢◌, ◌==◌, ◌⊎◌, ℕ, ◌+◌, ◌<◌, ◌≤◌, zero, suc, Bool, true, false, cond, Result, Ok, Err, IfErr, OnOk, List, [], ◌∷◌, ◌++◌, map, length, get_or, drop, refl, sym, ap, ◌∙◌, subst, arith, inl, inr, length-append, append_assoc, append-nil}
 use Rattle.std.specs.Prelude.{All}
 use Rattle.std.specs.List.{flat_map}
 use Rattle.std.specs.Fmt.{decimal}
@@ -59,7 +59,7 @@ flat_map-append_one : (f : ℕ → List Asked) (xs : List ℕ) (x : ℕ) → fla
 flat_map-append_one f [] x = append-nil (f x)
 flat_map-append_one f (y ∷ xs) x = ap (λ ys. f y ++ ys) (flat_map-append_one f xs x) ∙ sym (append_assoc (f y) (flat_map f xs) (f x))
 
-turn_suc : (pass : ℕ) (lines : List Line) → asked_in_turn (suc pass) lines ≡ asked_in_turn pass lines ++ asked_of_pass lines pass
+pub turn_suc : (pass : ℕ) (lines : List Line) → asked_in_turn (suc pass) lines ≡ asked_in_turn pass lines ++ asked_of_pass lines pass
 turn_suc pass lines = flat_map-append_one (asked_of_pass lines) (passes_below pass) pass
 
 pub turn_more : (pass : ℕ) (lines : List Line) → asked_in_turn (pass + 1) lines ≡ asked_in_turn pass lines ++ asked_of_pass lines pass
@@ -118,3 +118,11 @@ illegal_on Limit P Q on h = h
 
 pub err_on : {A : Type 0} (r : Result A Fault) (f : Fault) (P Q : ℕ → Type 0) → r ≡ Err f → ((line : ℕ) → P line → Q line) → IfIllegal f P → IfErr r (λ fault. IfIllegal fault Q)
 err_on r f P Q is on h = subst (λ x. IfErr x (λ fault. IfIllegal fault Q)) (sym is) (illegal_on f P Q on h)
+
+pub on_ok : {A : Type 0} (r : Result A Fault) (P Q : Type 0) → (P → Q) → OnOk r P → OnOk r Q
+on_ok (Ok x) P Q f h = f h
+on_ok (Err e) P Q f h = tt
+
+pub on_err : {A : Type 0} (r : Result A Fault) (N : Type 0) (Q : ℕ → Type 0) (line : ℕ) → (N → Q line) → IfErr r (λ fault. (fault ≡ Illegal line) × N) → IfErr r (λ fault. IfIllegal fault Q)
+on_err (Ok x) N Q line f h = tt
+on_err (Err e) N Q line f h = subst (λ x. IfIllegal x Q) (sym h.0) (f h.1)

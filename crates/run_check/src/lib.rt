@@ -4,6 +4,7 @@
 mod fault;
 mod history;
 mod lines;
+mod parts;
 mod places;
 mod plain_map;
 mod replies;
@@ -11,5 +12,6 @@ mod share;
 mod stepping;
 mod taking;
 mod told;
+mod walking;
 
 pub use fault::Fault;
