@@ -51,7 +51,7 @@ cut_more bytes rest behind line taken some first_line shorter back whole other c
     let bytes_are : bytes ≡ (c.front ++ piece) ++ behind = c.bytes_are ∙ ap (λ xs. c.front ++ xs) rest_is ∙ sym (append_assoc c.front piece behind) in
     let all : lines_of bytes ≡ (c.lines ++ line ∷ []) ++ lines_of behind = c.all ∙ ap (λ xs. c.lines ++ xs) first_line ∙ sym (append_assoc c.lines (line ∷ []) (lines_of behind)) in
     let more : 0 < length behind → (xs : List ℕ) → lines_of ((c.front ++ piece) ++ xs) ≡ (c.lines ++ line ∷ []) ++ lines_of xs = λ left xs.
-        ap lines_of (append_assoc c.front piece xs) ∙ c.more some (piece ++ xs) ∙ ap (λ ys. c.lines ++ ys) (whole left xs) ∙ sym (append_assoc c.lines (line ∷ []) (lines_of xs)) in
+    ap lines_of (append_assoc c.front piece xs) ∙ c.more some (piece ++ xs) ∙ ap (λ ys. c.lines ++ ys) (whole left xs) ∙ sym (append_assoc c.lines (line ∷ []) (lines_of xs)) in
     record {
       front = c.front ++ piece;
       lines = c.lines ++ line ∷ [];

@@ -12,3 +12,4 @@ pub mod PlacesStand
 pub mod Totals
 pub mod Whole
 pub mod Walk
+pub mod Verdict

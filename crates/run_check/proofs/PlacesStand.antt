@@ -45,9 +45,9 @@ history_part run before after rest a b c xs n run_is before_is after_is len =
 pub own_both : (p : ℕ) (g h : List (ℕ × RecordEntry)) → own_entries p (g ++ h) ≡ own_entries p g ++ own_entries p h
 own_both p [] h = refl
 own_both p (x ∷ g) h = elim (x.0 == p) as (λ t. map (λ (y : ℕ × RecordEntry). y.1) (cond t (x ∷ filter (λ y. y.0 == p) (g ++ h)) (filter (λ y. y.0 == p) (g ++ h))) ≡ map (λ (y : ℕ × RecordEntry). y.1) (cond t (x ∷ filter (λ y. y.0 == p) g) (filter (λ y. y.0 == p) g)) ++ own_entries p h) [
-    | true ↦ ap (λ xs. x.1 ∷ xs) (own_both p g h)
-    | false ↦ own_both p g h
-  ]
+  | true ↦ ap (λ xs. x.1 ∷ xs) (own_both p g h)
+  | false ↦ own_both p g h
+]
 
 abbrev pub Splits : Type 0
 Splits = (m : RecordMap) (front rest : List (ℕ × RecordEntry)) → IsLegalHistory m (front ++ rest) → IsLegalHistory m front × IsLegalHistory (map_after m front) rest
@@ -58,15 +58,22 @@ places_stand splits workers script run told h left left' lines after k tolds fre
     let front = take k h in
     let rest = drop k h in
     let whole : h ≡ front ++ rest = sym (take-append-drop k h) in
-    let m0 = no_records (length script.names) workers in
-    (told, front, tolds, record {
-      places = sym (take-map (λ e. place_line (answered e)) k h)
-        ∙ sym (take-append-le k (places_of h) after (omega (arith, small, length-map h (λ (e : ℕ × RecordEntry). place_line (answered e)))))
-        ∙ ap (take k) (sym r.lines ∙ sym part);
-      legal = (splits m0 front rest (subst (IsLegalHistory m0) whole r.legal)).0;
-      turns = λ p. (own_entries p rest ++ left' p,
-        fresh p ∙ r.turns p ∙ ap (λ xs. own_entries p xs ++ left' p) whole ∙ ap (λ xs. xs ++ left' p) (own_both p front rest) ∙ append_assoc (own_entries p front) (own_entries p rest) (left' p));
-    }, length-take-le k h small)
+    let m0 = no_records (length script.names) workers in (
+      told,
+      front,
+      tolds,
+      record {
+        places = sym (take-map (λ e. place_line (answered e)) k h)
+            ∙ sym (take-append-le k (places_of h) after (omega (arith, small, length-map h (λ (e : ℕ × RecordEntry). place_line (answered e)))))
+            ∙ ap (take k) (sym r.lines ∙ sym part);
+        legal = (splits m0 front rest (subst (IsLegalHistory m0) whole r.legal)).0;
+        turns = λ p. (
+          own_entries p rest ++ left' p,
+          fresh p ∙ r.turns p ∙ ap (λ xs. own_entries p xs ++ left' p) whole ∙ ap (λ xs. xs ++ left' p) (own_both p front rest) ∙ append_assoc (own_entries p front) (own_entries p rest) (left' p),
+        );
+      },
+      length-take-le k h small,
+    )
 
 take_twice : {X : Type 0} (count : ℕ) (xs : List X) → take count (take (count + 1) xs) ≡ take count xs
 take_twice zero xs = refl
@@ -101,26 +108,26 @@ place_refused rereads splits workers script run told left lines count sorted tol
     let size : length (places_of s.history) ≡ count = length-map s.history (λ (e : ℕ × RecordEntry). place_line (answered e)) ∙ sym s.counted in
     let places : places_of h' ≡ take (count + 1) (places_of s.history ++ s.after) = replay.places ∙ ap (take (count + 1)) (part ∙ s.replayed.lines) in
     let front : places_of h0 ≡ places_of s.history =
-        sym (take-map (λ e. place_line (answered e)) count h') ∙ ap (take count) places
-        ∙ take_twice count (places_of s.history ++ s.after)
-        ∙ ap (λ n. take n (places_of s.history ++ s.after)) (sym size) ∙ take-append_seam (places_of s.history) s.after in
+    sym (take-map (λ e. place_line (answered e)) count h') ∙ ap (take count) places
+    ∙ take_twice count (places_of s.history ++ s.after)
+    ∙ ap (λ n. take n (places_of s.history ++ s.after)) (sym size) ∙ take-append_seam (places_of s.history) s.after in
     let first : slice_get s.after 0 ≡ Some (place_line (answered e)) =
-        sym (get_behind (places_of s.history) s.after 0)
-        ∙ ap (slice_get (places_of s.history ++ s.after)) (plus_none (length (places_of s.history)) ∙ size)
-        ∙ sym (get_take (places_of s.history ++ s.after) (count + 1) count (omega arith))
-        ∙ ap (λ xs. slice_get xs count) (sym places)
-        ∙ ap (λ xs. slice_get (places_of xs) count) last.1
-        ∙ ap (λ xs. slice_get xs count) (map-append (λ e. place_line (answered e)) h0 (e ∷ []))
-        ∙ ap (slice_get (places_of h0 ++ place_line (answered e) ∷ [])) (sym (ap length front ∙ size) ∙ sym (plus_none (length (places_of h0))))
-        ∙ get_behind (places_of h0) (place_line (answered e) ∷ []) 0 in
+    sym (get_behind (places_of s.history) s.after 0)
+    ∙ ap (slice_get (places_of s.history ++ s.after)) (plus_none (length (places_of s.history)) ∙ size)
+    ∙ sym (get_take (places_of s.history ++ s.after) (count + 1) count (omega arith))
+    ∙ ap (λ xs. slice_get xs count) (sym places)
+    ∙ ap (λ xs. slice_get (places_of xs) count) last.1
+    ∙ ap (λ xs. slice_get xs count) (map-append (λ e. place_line (answered e)) h0 (e ∷ []))
+    ∙ ap (slice_get (places_of h0 ++ place_line (answered e) ∷ [])) (sym (ap length front ∙ size) ∙ sym (plus_none (length (places_of h0))))
+    ∙ get_behind (places_of h0) (place_line (answered e) ∷ []) 0 in
     let rests = λ (p : ℕ). (replay.turns p).0 in
     let turns : (p : ℕ) → left p ≡ own_entries p h0 ++ (cond (e.0 == p) (e.1 ∷ []) [] ++ rests p) = λ p.
-        sym (fresh p) ∙ ap (own_entries p) (sym same_told) ∙ (replay.turns p).1 ∙ ap (λ xs. own_entries p xs ++ rests p) last.1
-        ∙ ap (λ xs. xs ++ rests p) (own_more p h0 e (e.0 == p) refl) ∙ append_assoc (own_entries p h0) (cond (e.0 == p) (e.1 ∷ []) []) (rests p) in
+    sym (fresh p) ∙ ap (own_entries p) (sym same_told) ∙ (replay.turns p).1 ∙ ap (λ xs. own_entries p xs ++ rests p) last.1
+    ∙ ap (λ xs. xs ++ rests p) (own_more p h0 e (e.0 == p) refl) ∙ append_assoc (own_entries p h0) (cond (e.0 == p) (e.1 ∷ []) []) (rests p) in
     let same : h0 ≡ s.history = same_history left (λ p. cond (e.0 == p) (e.1 ∷ []) [] ++ rests p) s.left_then h0 s.history few front turns s.replayed.turns in
     let mine : s.left_then e.0 ≡ e.1 ∷ rests e.0 =
-        append_cancel_left (own_entries e.0 s.history) (s.left_then e.0) (e.1 ∷ rests e.0)
-        (sym (s.replayed.turns e.0) ∙ turns e.0 ∙ ap (λ xs. own_entries e.0 xs ++ (cond (e.0 == e.0) (e.1 ∷ []) [] ++ rests e.0)) same
-        ∙ ap (λ b. own_entries e.0 s.history ++ (cond b (e.1 ∷ []) [] ++ rests e.0)) (itself e.0)) in
+    append_cancel_left (own_entries e.0 s.history) (s.left_then e.0) (e.1 ∷ rests e.0)
+    (sym (s.replayed.turns e.0) ∙ turns e.0 ∙ ap (λ xs. own_entries e.0 xs ++ (cond (e.0 == e.0) (e.1 ∷ []) [] ++ rests e.0)) same
+    ∙ ap (λ b. own_entries e.0 s.history ++ (cond b (e.1 ∷ []) [] ++ rests e.0)) (itself e.0)) in
     let legal = (splits m0 h0 (e ∷ []) (subst (IsLegalHistory m0) last.1 replay.legal)).1 in
     s.refused e (rests e.0) first mine (subst (λ xs. IsRight (map_after m0 xs) e) same legal.0)

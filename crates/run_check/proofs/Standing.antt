@@ -76,9 +76,9 @@ module _ (workers : ℕ) (script : Plain) (run : List (List ℕ)) (n : ℕ) wher
 -- one line more
 pub stand_more : (P : ℕ → Type 0) (i j : ℕ) → j ≡ i + 1 → ((k : ℕ) → k < i → P k) → P i → (k : ℕ) → k < j → P k
 stand_more P i j at below here k small = elim (cases_lt k i) [
-    | inl h ↦ below k h
-    | inr h ↦ let same : i ≡ k = omega arith in subst P same here
-  ]
+  | inl h ↦ below k h
+  | inr h ↦ let same : i ≡ k = omega arith in subst P same here
+]
 
 pub plus_none : (k : ℕ) → k + 0 ≡ k
 plus_none k = omega arith
@@ -114,14 +114,14 @@ reply_refused workers script run n a b before count run_is s small m =
     let r = m.reply count small refl in
     let len : length s.front ≡ count = sym (ap length s.read.asks) ∙ length-map s.told asked_by_entry ∙ sym s.counted in
     let here : slice_get (asked_in_turn workers script.lines) count ≡ Some s.next =
-        ap (λ xs. slice_get xs count) s.whole ∙ ap (slice_get (s.front ++ s.next ∷ s.more)) (sym len ∙ sym (plus_none (length s.front))) ∙ get_behind s.front (s.next ∷ s.more) 0 in
+    ap (λ xs. slice_get xs count) s.whole ∙ ap (slice_get (s.front ++ s.next ∷ s.more)) (sym len ∙ sym (plus_none (length s.front))) ∙ get_behind s.front (s.next ∷ s.more) 0 in
     let next : r.0 ≡ s.next = same_Some r.0 s.next (sym r.2 ∙ here) in
     let told_len : length (map (λ e. reply_line script.names (answered e)) s.told) ≡ count = length-map s.told (λ e. reply_line script.names (answered e)) ∙ sym s.counted in
     let line : slice_get s.after 0 ≡ Some r.1 =
-        sym (get_behind (map (λ e. reply_line script.names (answered e)) s.told) s.after 0)
-        ∙ ap (slice_get (map (λ e. reply_line script.names (answered e)) s.told ++ s.after)) (plus_none _ ∙ told_len)
-        ∙ ap (λ xs. slice_get xs count) (sym s.read.lines)
-        ∙ sym (behind_two a b before count) ∙ ap (λ xs. slice_get xs (2 + count)) (sym run_is) ∙ r.3 in
+    sym (get_behind (map (λ e. reply_line script.names (answered e)) s.told) s.after 0)
+    ∙ ap (slice_get (map (λ e. reply_line script.names (answered e)) s.told ++ s.after)) (plus_none _ ∙ told_len)
+    ∙ ap (λ xs. slice_get xs count) (sym s.read.lines)
+    ∙ sym (behind_two a b before count) ∙ ap (λ xs. slice_get xs (2 + count)) (sym run_is) ∙ r.3 in
     s.refused r.1 line (subst (λ x. TellsReply script.names x r.1) next r.4)
 
 pub stop_small : (names : List (List ℕ)) (asked : List Asked) (before : List (List ℕ)) (count : ℕ) → StopsReading names asked before count → count < length asked

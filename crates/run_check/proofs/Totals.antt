@@ -62,9 +62,9 @@ total_one (suc n) a w low high =
 
 one_line : (w : ℕ) (l : Line) (lines : List Line) → length (commands_of w (l ∷ lines)) ≡ one_if (l.worker == w) + length (commands_of w lines)
 one_line w l lines = elim (l.worker == w) as (λ b. length (map (λ (x : Line). x.command) (cond b (l ∷ filter (λ x. x.worker == w) lines) (filter (λ x. x.worker == w) lines))) ≡ one_if b + length (commands_of w lines)) [
-    | true ↦ omega arith
-    | false ↦ omega arith
-  ]
+  | true ↦ omega arith
+  | false ↦ omega arith
+]
 
 lines_total : (n : ℕ) (lines : List Line) → All (λ (l : Line). IsWorker n l.worker) lines → total n (λ p. length (commands_of (worker_of p) lines)) ≡ length lines
 lines_total n [] all = total_zero n
@@ -89,15 +89,15 @@ all_asked workers lines all = turns_total workers lines ∙ lines_total workers 
 
 same_after : (T : ℕ → List RecordEntry) (p0 p : ℕ) → length (after_turn T (suc p0) (suc p)) ≡ length (after_turn (λ q. T (suc q)) p0 p)
 same_after T p0 p = elim (same_or_not p p0) [
-    | inl s ↦ ap (λ b. length (cond b (drop 1 (T (suc p))) (T (suc p)))) (ap (λ n. suc n == suc p0) s.0 ∙ itself (suc p0)) ∙ sym (ap (λ b. length (cond b (drop 1 (T (suc p))) (T (suc p)))) s.1)
-    | inr s ↦ ap (λ b. length (cond b (drop 1 (T (suc p))) (T (suc p)))) (not_itself (suc p0) (suc p) (λ q. s.0 (omega arith))) ∙ sym (ap (λ b. length (cond b (drop 1 (T (suc p))) (T (suc p)))) s.1)
-  ]
+  | inl s ↦ ap (λ b. length (cond b (drop 1 (T (suc p))) (T (suc p)))) (ap (λ n. suc n == suc p0) s.0 ∙ itself (suc p0)) ∙ sym (ap (λ b. length (cond b (drop 1 (T (suc p))) (T (suc p)))) s.1)
+  | inr s ↦ ap (λ b. length (cond b (drop 1 (T (suc p))) (T (suc p)))) (not_itself (suc p0) (suc p) (λ q. s.0 (omega arith))) ∙ sym (ap (λ b. length (cond b (drop 1 (T (suc p))) (T (suc p)))) s.1)
+]
 
 few_after : (n : ℕ) (T : ℕ → List RecordEntry) (p0 : ℕ) → p0 < n → ((p : ℕ) (e : RecordEntry) (rest : List RecordEntry) → T p ≡ e ∷ rest → p < n) → (p : ℕ) (e : RecordEntry) (rest : List RecordEntry) → after_turn T p0 p ≡ e ∷ rest → p < n
 few_after n T p0 small few p e rest is = elim (same_or_not p p0) [
-    | inl s ↦ omega arith
-    | inr s ↦ few p e rest (sym (ap (λ b. cond b (drop 1 (T p)) (T p)) s.1) ∙ is)
-  ]
+  | inl s ↦ omega arith
+  | inr s ↦ few p e rest (sym (ap (λ b. cond b (drop 1 (T p)) (T p)) s.1) ∙ is)
+]
 
 total_turn : (n : ℕ) (T : ℕ → List RecordEntry) (p0 : ℕ) (e : RecordEntry) (rest : List RecordEntry) → p0 < n → T p0 ≡ e ∷ rest → total n (λ p. length (T p)) ≡ 1 + total n (λ p. length (after_turn T p0 p))
 total_turn zero T p0 e rest small is = absurd (omega arith)

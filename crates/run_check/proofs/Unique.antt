@@ -38,7 +38,7 @@ same_entry law names sorted e f asks line may may' =
     let command : e.1.command ≡ f.1.command = ap (λ (a : Asked). a.command) asks in
     let place : place_line (answered e) ≡ place_line (answered f) = λ i. place_line (record { worker = pass i + 1; number = number i; reply = e.1.reply }) in
     let text : reply_text names e.1.reply ≡ reply_text names f.1.reply =
-        (heads 32 32 _ _ (append_cancel_left (place_line (answered e)) (32 ∷ reply_text names e.1.reply) (32 ∷ reply_text names f.1.reply) (line ∙ ap (λ xs. xs ++ 32 ∷ reply_text names f.1.reply) (sym place)))).1 in
+    (heads 32 32 _ _ (append_cancel_left (place_line (answered e)) (32 ∷ reply_text names e.1.reply) (32 ∷ reply_text names f.1.reply) (line ∙ ap (λ xs. xs ++ 32 ∷ reply_text names f.1.reply) (sym place)))).1 in
     let reply : e.1.reply ≡ f.1.reply = law names e.1.command e.1.reply f.1.reply sorted may (subst (λ c. IsReplyTo (length names) c f.1.reply) (sym command) may') text in
     λ i. (pass i, record { number = number i; command = command i; reply = reply i })
 
@@ -73,19 +73,19 @@ turn_first T r e h turns = turns e.0 ∙ ap (λ xs. xs ++ r e.0) (own_here e.0 e
 
 pub turn_rest : (T r : ℕ → List RecordEntry) (e : ℕ × RecordEntry) (h : List (ℕ × RecordEntry)) (p0 : ℕ) → e.0 ≡ p0 → ((p : ℕ) → T p ≡ own_entries p (e ∷ h) ++ r p) → (p : ℕ) → after_turn T p0 p ≡ own_entries p h ++ r p
 turn_rest T r e h p0 is turns p = elim (same_or_not p p0) [
-    | inl s ↦
+  | inl s ↦
       ap (λ b. cond b (drop 1 (T p)) (T p)) s.1
       ∙ ap (drop 1) (turns p ∙ ap (λ xs. xs ++ r p) (own_here p e h (is ∙ sym s.0)))
-    | inr s ↦
+  | inr s ↦
       ap (λ b. cond b (drop 1 (T p)) (T p)) s.1
       ∙ turns p ∙ ap (λ xs. xs ++ r p) (own_there p e h (λ q. s.0 (q ∙ is)))
-  ]
+]
 
 pub turn_few : (T : ℕ → List RecordEntry) (p0 : ℕ) → p0 < 16 → ((p : ℕ) (e : RecordEntry) (rest : List RecordEntry) → T p ≡ e ∷ rest → p < 16) → (p : ℕ) (e : RecordEntry) (rest : List RecordEntry) → after_turn T p0 p ≡ e ∷ rest → p < 16
 turn_few T p0 small few p e rest is = elim (same_or_not p p0) [
-    | inl s ↦ omega arith
-    | inr s ↦ few p e rest (sym (ap (λ b. cond b (drop 1 (T p)) (T p)) s.1) ∙ is)
-  ]
+  | inl s ↦ omega arith
+  | inr s ↦ few p e rest (sym (ap (λ b. cond b (drop 1 (T p)) (T p)) s.1) ∙ is)
+]
 
 pub same_history : (T r r' : ℕ → List RecordEntry) (h h' : List (ℕ × RecordEntry)) → ((p : ℕ) (e : RecordEntry) (rest : List RecordEntry) → T p ≡ e ∷ rest → p < 16) → map (λ e. place_line (answered e)) h ≡ map (λ e. place_line (answered e)) h' → ((p : ℕ) → T p ≡ own_entries p h ++ r p) → ((p : ℕ) → T p ≡ own_entries p h' ++ r' p) → h ≡ h'
 same_history T r r' [] [] few places turns turns' = refl

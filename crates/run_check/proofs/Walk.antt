@@ -45,9 +45,13 @@ behind_replies names run before after asked told n k run_is read len =
 pub refused_in_replies : (workers : ℕ) (script : Plain) (run before : List (List ℕ)) (taken0 taken line count : ℕ) → IsScript workers script → run ≡ run_header ∷ replies_header ∷ before → taken ≡ taken0 + 2 → line ≡ taken + count + 1 → StopsReading script.names (asked_in_turn workers script.lines) before count → IsFirstRefused workers script run taken0 line
 refused_in_replies workers script run before taken0 taken line count is run_is counted at s =
     let small : count < length script.lines = omega (arith, stop_small script.names (asked_in_turn workers script.lines) before count s, all_asked workers script.lines is.workers) in
-    let stand = up_to_replies workers script run s.front (s.next ∷ s.more) s.told before s.after run_is s.whole s.read (omega (arith, s.counted, small)) in
-    (2 + count, omega arith, omega arith, subst (λ k. StandUpTo workers script run (2 + k)) (sym s.counted) stand,
-     reply_refused workers script run (length script.lines) run_header replies_header before count run_is s small)
+    let stand = up_to_replies workers script run s.front (s.next ∷ s.more) s.told before s.after run_is s.whole s.read (omega (arith, s.counted, small)) in (
+      2 + count,
+      omega arith,
+      omega arith,
+      subst (λ k. StandUpTo workers script run (2 + k)) (sym s.counted) stand,
+      reply_refused workers script run (length script.lines) run_header replies_header before count run_is s small,
+    )
 
 -- all replies are read
 pub record IsPastReplies (workers : ℕ) (script : Plain) (run : List (List ℕ)) (told : List (ℕ × RecordEntry)) (before after : List (List ℕ)) : Type 0 where
@@ -65,10 +69,14 @@ past_replies workers script run told before after p =
 pub refused_at_history : (workers : ℕ) (script : Plain) (run before after : List (List ℕ)) (told : List (ℕ × RecordEntry)) (taken0 taken taken' line : ℕ) → IsScript workers script → run ≡ run_header ∷ replies_header ∷ before → HasRead script.names (asked_in_turn workers script.lines) told before after → taken ≡ taken0 + 2 → taken' ≡ taken + length told → line ≡ taken' + 1 → slice_get after 0 ≢ Some history_header → IsFirstRefused workers script run taken0 line
 refused_at_history workers script run before after told taken0 taken taken' line is run_is read counted counted' at none =
     let n = length script.lines in
-    let len = told_len workers script told before after is read in
-    (2 + n, omega (arith, len), omega arith, past_replies workers script run told before after (record { is = is; run_is = run_is; read = read }),
-     λ m. none (sym (behind_replies script.names run before after (asked_in_turn workers script.lines) told n 0 run_is read len)
-       ∙ ap (λ k. slice_get run (2 + k)) (plus_none n) ∙ m.history refl))
+    let len = told_len workers script told before after is read in (
+      2 + n,
+      omega (arith, len),
+      omega arith,
+      past_replies workers script run told before after (record { is = is; run_is = run_is; read = read }),
+      λ m. none (sym (behind_replies script.names run before after (asked_in_turn workers script.lines) told n 0 run_is read len)
+          ∙ ap (λ k. slice_get run (2 + k)) (plus_none n) ∙ m.history refl),
+    )
 
 -- the lines of the history part so far
 up_to_places : Splits → (workers : ℕ) (script : Plain) (run before after places rest : List (List ℕ)) (told h : List (ℕ × RecordEntry)) (left left' : ℕ → List RecordEntry) → IsPastReplies workers script run told before after → ((p : ℕ) → own_entries p told ≡ left p) → after ≡ history_header ∷ places → HasReplayed (length script.names) workers h left places left' rest → length h ≤ length script.lines → StandUpTo workers script run (3 + length script.lines + length h)
@@ -76,14 +84,14 @@ up_to_places splits workers script run before after places rest told h left left
     let n = length script.lines in
     let len = told_len workers script told before after p.is p.read in
     let header : slice_get run (2 + n) ≡ Some history_header =
-        ap (λ k. slice_get run (2 + k)) (sym (plus_none n)) ∙ behind_replies script.names run before after (asked_in_turn workers script.lines) told n 0 p.run_is p.read len ∙ ap (λ xs. slice_get xs 0) after_is in
+    ap (λ k. slice_get run (2 + k)) (sym (plus_none n)) ∙ behind_replies script.names run before after (asked_in_turn workers script.lines) told n 0 p.run_is p.read len ∙ ap (λ xs. slice_get xs 0) after_is in
     elim (cases_lt i (3 + n)) [
       | inl below ↦ stand_more (MayStand workers script run n) (2 + n) (3 + n) (omega arith) (past_replies workers script run told before after p) (stand_history workers script run n (2 + n) refl header) i below
       | inr over ↦
-        let k : ℕ = i - (3 + n) in
-        let at : i ≡ 3 + n + k = omega arith in
-        stand_place workers script run n i k at (omega arith)
-        (places_stand splits workers script run told h left left' places rest (k + 1)
+          let k : ℕ = i - (3 + n) in
+          let at : i ≡ 3 + n + k = omega arith in
+          stand_place workers script run n i k at (omega arith)
+          (places_stand splits workers script run told h left left' places rest (k + 1)
           (told_are script.names (asked_in_turn workers script.lines) told run before after run_header replies_header n p.run_is p.read len) fresh
           (history_part run before after places run_header replies_header history_header (replies_of script.names told) n p.run_is p.read.lines after_is (length-map told (λ e. reply_line script.names (answered e)) ∙ len)) r (omega arith))
     ]
@@ -93,11 +101,15 @@ pub refused_in_history : Rereads → Splits → (workers : ℕ) (script : Plain)
 refused_in_history rereads splits workers script run before after places told left taken0 taken taken' taken'' line count is run_is read fresh few after_is counted counted' counted'' small at s =
     let n = length script.lines in
     let len = told_len workers script told before after is read in
-    let stand = up_to_places splits workers script run before after places s.after told s.history left s.left_then (record { is = is; run_is = run_is; read = read }) fresh after_is s.replayed (omega (arith, s.counted)) in
-    (3 + n + count, omega (arith, len), omega arith, subst (λ k. StandUpTo workers script run (3 + n + k)) (sym s.counted) stand,
-     λ m. place_refused rereads splits workers script run told left places count is.sorted
-       (told_are script.names (asked_in_turn workers script.lines) told run before after run_header replies_header n run_is read len) fresh few
-       (history_part run before after places run_header replies_header history_header (replies_of script.names told) n run_is read.lines after_is (length-map told (λ e. reply_line script.names (answered e)) ∙ len)) s (m.place count small refl))
+    let stand = up_to_places splits workers script run before after places s.after told s.history left s.left_then (record { is = is; run_is = run_is; read = read }) fresh after_is s.replayed (omega (arith, s.counted)) in (
+      3 + n + count,
+      omega (arith, len),
+      omega arith,
+      subst (λ k. StandUpTo workers script run (3 + n + k)) (sym s.counted) stand,
+      λ m. place_refused rereads splits workers script run told left places count is.sorted
+          (told_are script.names (asked_in_turn workers script.lines) told run before after run_header replies_header n run_is read len) fresh few
+          (history_part run before after places run_header replies_header history_header (replies_of script.names told) n run_is read.lines after_is (length-map told (λ e. reply_line script.names (answered e)) ∙ len)) s (m.place count small refl),
+    )
 
 -- what stands behind the history
 behind_history : (names : List (List ℕ)) (run before after places rest : List (List ℕ)) (asked : List Asked) (told h : List (ℕ × RecordEntry)) (n : ℕ) → run ≡ run_header ∷ replies_header ∷ before → HasRead names asked told before after → length told ≡ n → after ≡ history_header ∷ places → places ≡ places_of h ++ rest → length h ≡ n → slice_get run (3 + n + n) ≡ slice_get rest 0
@@ -112,9 +124,13 @@ pub refused_at_report : Splits → (workers : ℕ) (script : Plain) (run before 
 refused_at_report splits workers script run before after places rest told h left left' taken0 taken taken' taken'' taken3 line is run_is read fresh after_is r size counted counted' counted'' counted3 at none =
     let n = length script.lines in
     let len = told_len workers script told before after is read in
-    let stand = up_to_places splits workers script run before after places rest told h left left' (record { is = is; run_is = run_is; read = read }) fresh after_is r (omega (arith, size)) in
-    (3 + n + n, omega (arith, len), omega arith, subst (λ k. StandUpTo workers script run (3 + n + k)) size stand,
-     λ m. none (sym (behind_history script.names run before after places rest (asked_in_turn workers script.lines) told h n run_is read len after_is r.lines size) ∙ m.report refl))
+    let stand = up_to_places splits workers script run before after places rest told h left left' (record { is = is; run_is = run_is; read = read }) fresh after_is r (omega (arith, size)) in (
+      3 + n + n,
+      omega (arith, len),
+      omega arith,
+      subst (λ k. StandUpTo workers script run (3 + n + k)) size stand,
+      λ m. none (sym (behind_history script.names run before after places rest (asked_in_turn workers script.lines) told h n run_is read len after_is r.lines size) ∙ m.report refl),
+    )
 
 -- all lines stand
 pub all_stand : Splits → (workers : ℕ) (script : Plain) (run before after places rest behind : List (List ℕ)) (told h : List (ℕ × RecordEntry)) (left left' : ℕ → List RecordEntry) → IsScript workers script → run ≡ run_header ∷ replies_header ∷ before → HasRead script.names (asked_in_turn workers script.lines) told before after → ((p : ℕ) → own_entries p told ≡ left p) → after ≡ history_header ∷ places → HasReplayed (length script.names) workers h left places left' rest → length h ≡ length script.lines → rest ≡ report_header ∷ behind → StandUpTo workers script run (4 + length script.lines + length script.lines)

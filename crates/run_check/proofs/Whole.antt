@@ -91,9 +91,9 @@ numbers e = (e.number, e.command)
 asked_own : (p : ℕ) (h : List (ℕ × RecordEntry)) → asked_by p h ≡ map numbers (own_entries p h)
 asked_own p [] = refl
 asked_own p (e ∷ h) = elim (e.0 == p) as (λ b. map (λ (x : ℕ × RecordEntry). (x.1.number, x.1.command)) (cond b (e ∷ filter (λ x. x.0 == p) h) (filter (λ x. x.0 == p) h)) ≡ map numbers (map (λ (x : ℕ × RecordEntry). x.1) (cond b (e ∷ filter (λ x. x.0 == p) h) (filter (λ x. x.0 == p) h)))) [
-    | true ↦ ap (λ xs. (e.1.number, e.1.command) ∷ xs) (asked_own p h)
-    | false ↦ asked_own p h
-  ]
+  | true ↦ ap (λ xs. (e.1.number, e.1.command) ∷ xs) (asked_own p h)
+  | false ↦ asked_own p h
+]
 
 abbrev pair_of : Asked → ℕ × Command
 pair_of a = (a.number, a.command)
@@ -104,16 +104,16 @@ asked_to p asked = map pair_of (filter (λ a. a.pass == p) asked)
 asked_told : (p : ℕ) (told : List (ℕ × RecordEntry)) → asked_by p told ≡ asked_to p (map asked_by_entry told)
 asked_told p [] = refl
 asked_told p (e ∷ told) = elim (e.0 == p) as (λ b. map (λ (x : ℕ × RecordEntry). (x.1.number, x.1.command)) (cond b (e ∷ filter (λ x. x.0 == p) told) (filter (λ x. x.0 == p) told)) ≡ map pair_of (cond b (asked_by_entry e ∷ filter (λ a. a.pass == p) (map asked_by_entry told)) (filter (λ a. a.pass == p) (map asked_by_entry told)))) [
-    | true ↦ ap (λ xs. (e.1.number, e.1.command) ∷ xs) (asked_told p told)
-    | false ↦ asked_told p told
-  ]
+  | true ↦ ap (λ xs. (e.1.number, e.1.command) ∷ xs) (asked_told p told)
+  | false ↦ asked_told p told
+]
 
 asked_both : (p : ℕ) (xs ys : List Asked) → asked_to p (xs ++ ys) ≡ asked_to p xs ++ asked_to p ys
 asked_both p [] ys = refl
 asked_both p (a ∷ xs) ys = elim (a.pass == p) as (λ b. map pair_of (cond b (a ∷ filter (λ a. a.pass == p) (xs ++ ys)) (filter (λ a. a.pass == p) (xs ++ ys))) ≡ map pair_of (cond b (a ∷ filter (λ a. a.pass == p) xs) (filter (λ a. a.pass == p) xs)) ++ asked_to p ys) [
-    | true ↦ ap (λ zs. (a.number, a.command) ∷ zs) (asked_both p xs ys)
-    | false ↦ asked_both p xs ys
-  ]
+  | true ↦ ap (λ zs. (a.number, a.command) ∷ zs) (asked_both p xs ys)
+  | false ↦ asked_both p xs ys
+]
 
 abbrev asked_as : ℕ → List (ℕ × Command) → List Asked
 asked_as q cs = map (λ c. record { pass = q; number = c.0; command = c.1 }) cs
@@ -142,11 +142,11 @@ turns_of (suc n) p lines small =
     ap (asked_to p) (turn_suc n lines) ∙ asked_both p (asked_in_turn n lines) (asked_of_pass lines n)
     ∙ elim (same_or_not p n) as (λ _. asked_to p (asked_in_turn n lines) ++ asked_to p (asked_of_pass lines n) ≡ numbered 1 (commands_of (worker_of p) lines)) [
       | inl s ↦
-        (λ i. turns_beyond n p lines (omega (arith, s.0)) i ++ asked_to (s.0 i) (asked_of_pass lines n))
-        ∙ asked_same n (numbered 1 (commands_of (worker_of n) lines)) ∙ ap (λ q. numbered 1 (commands_of (worker_of q) lines)) (sym s.0)
+          (λ i. turns_beyond n p lines (omega (arith, s.0)) i ++ asked_to (s.0 i) (asked_of_pass lines n))
+          ∙ asked_same n (numbered 1 (commands_of (worker_of n) lines)) ∙ ap (λ q. numbered 1 (commands_of (worker_of q) lines)) (sym s.0)
       | inr s ↦
-        (λ i. turns_of n p lines (omega (arith, s.0)) i ++ asked_other p n (numbered 1 (commands_of (worker_of n) lines)) s.0 i)
-        ∙ append-nil (numbered 1 (commands_of (worker_of p) lines))
+          (λ i. turns_of n p lines (omega (arith, s.0)) i ++ asked_other p n (numbered 1 (commands_of (worker_of n) lines)) s.0 i)
+          ∙ append-nil (numbered 1 (commands_of (worker_of p) lines))
     ]
 
 none_beyond : (n p : ℕ) (lines : List Line) → All (λ (l : Line). IsWorker n l.worker) lines → n ≤ p → commands_of (worker_of p) lines ≡ []
@@ -169,15 +169,15 @@ shared_is workers lines told h all asks own pass =
 to_worker : (p : ℕ) (h : List (ℕ × RecordEntry)) → replies_to (replies_at h) (p + 1) ≡ map (λ x. answered (p, x)) (own_entries p h)
 to_worker p [] = refl
 to_worker p (e ∷ h) = elim (same_or_not e.0 p) [
-    | inl s ↦
+  | inl s ↦
       ap (λ b. cond b (answered e ∷ replies_to (replies_at h) (p + 1)) (replies_to (replies_at h) (p + 1))) (ap (λ n. n + 1 == p + 1) s.0 ∙ itself (p + 1))
       ∙ (λ i. answered (s.0 i, e.1) ∷ to_worker p h i)
       ∙ sym (ap (λ b. map (λ (x : RecordEntry). answered (p, x)) (map (λ (x : ℕ × RecordEntry). x.1) (cond b (e ∷ filter (λ x. x.0 == p) h) (filter (λ x. x.0 == p) h)))) s.1)
-    | inr s ↦
+  | inr s ↦
       ap (λ b. cond b (answered e ∷ replies_to (replies_at h) (p + 1)) (replies_to (replies_at h) (p + 1))) (not_itself (p + 1) (e.0 + 1) (λ q. s.0 (omega arith)))
       ∙ to_worker p h
       ∙ sym (ap (λ b. map (λ (x : RecordEntry). answered (p, x)) (map (λ (x : ℕ × RecordEntry). x.1) (cond b (e ∷ filter (λ x. x.0 == p) h) (filter (λ x. x.0 == p) h)))) s.1)
-  ]
+]
 
 answers_of : (q : ℕ) (told : List Told) → map (λ x. answered (q, x)) (map entry_of told) ≡ map answered (of_pass q told)
 answers_of q [] = refl
@@ -188,8 +188,8 @@ by_shares q [] h fresh own = refl
 by_shares q (s ∷ shares) h fresh own =
     let at : q ≡ q + 0 = omega arith in
     let first : replies_to (replies_at h) (q + 1) ≡ map answered (of_pass q s.told.items) =
-        to_worker q h ∙ ap (λ n. map (λ x. answered (q, x)) (own_entries n h)) at ∙ ap (map (λ x. answered (q, x))) (own 0)
-        ∙ ap (λ n. map (λ x. answered (q, x)) (map entry_of (drop n s.told.items))) (fresh 0 s (omega arith)) ∙ answers_of q s.told.items in
+    to_worker q h ∙ ap (λ n. map (λ x. answered (q, x)) (own_entries n h)) at ∙ ap (map (λ x. answered (q, x))) (own 0)
+    ∙ ap (λ n. map (λ x. answered (q, x)) (map entry_of (drop n s.told.items))) (fresh 0 s (omega arith)) ∙ answers_of q s.told.items in
     let rest = by_shares (q + 1) shares h (λ k d small. fresh (suc k) d (omega arith)) (λ p. ap (λ n. own_entries n h) (omega arith) ∙ own (suc p)) in
     (λ i. first i ++ rest i) ∙ sym (map-append answered (of_pass q s.told.items) (told_in (q + 1) shares))
 
@@ -204,8 +204,8 @@ tells_history workers script run before after places rest behind shares h left' 
     let come = all_come shares h left' small fresh len replayed.turns in
     let own : (p : ℕ) → own_entries p h ≡ own_entries p told = λ p. come p ∙ sym (fresh_left shares fresh p) in
     let by : by_worker workers (replies_at h) ≡ map answered told =
-        ap (λ n. flat_map (replies_to (replies_at h)) (range_with_len 1 n)) count
-        ∙ by_shares 0 shares h fresh (λ p. ap (λ n. own_entries n h) (omega arith) ∙ come p) in
+    ap (λ n. flat_map (replies_to (replies_at h)) (range_with_len 1 n)) count
+    ∙ by_shares 0 shares h fresh (λ p. ap (λ n. own_entries n h) (omega arith) ∙ come p) in
     let replies : map (reply_line script.names) (by_worker workers (replies_at h)) ≡ map (λ e. reply_line script.names (answered e)) told = ap (map (reply_line script.names)) by ∙ mapped_twice (reply_line script.names) answered told in
     let placed : map place_line (replies_at h) ≡ places_of h = mapped_twice place_line answered h in
     let tail : places ≡ map place_line (replies_at h) ++ report_header ∷ behind = replayed.lines ∙ (λ i. sym placed i ++ rest_is i) in
@@ -214,6 +214,6 @@ tells_history workers script run before after places rest behind shares h left' 
       rest = behind;
       is = record { legal = replayed.legal; shared = shared_is workers script.lines told h all read.asks own };
       lines = run_is ∙ ap (λ xs. run_header ∷ replies_header ∷ xs)
-        (read.lines ∙ (λ i. sym replies i ++ (after_is ∙ ap (λ xs. history_header ∷ xs) tail) i)
-        ∙ sym (append_assoc (map (reply_line script.names) (by_worker workers (replies_at h))) (history_header ∷ map place_line (replies_at h)) (report_header ∷ behind)));
+          (read.lines ∙ (λ i. sym replies i ++ (after_is ∙ ap (λ xs. history_header ∷ xs) tail) i)
+          ∙ sym (append_assoc (map (reply_line script.names) (by_worker workers (replies_at h))) (history_header ∷ map place_line (replies_at h)) (report_header ∷ behind)));
     }

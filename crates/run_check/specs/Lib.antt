@@ -7,3 +7,6 @@ pub mod Replays
 pub mod Shares
 pub mod Turns
 pub mod Replayed
+pub mod Verdicts
+pub mod Scripts
+pub mod Readings

@@ -1,8 +1,10 @@
 //! Checking a printed run against its script: whether each reply is one that the records give along the history.
 #![tactic(auto)]
 
+mod checking;
 mod fault;
 mod history;
+mod judging;
 mod lines;
 mod parts;
 mod places;
@@ -14,4 +16,5 @@ mod taking;
 mod told;
 mod walking;
 
+pub use checking::check;
 pub use fault::Fault;
