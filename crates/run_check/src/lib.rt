@@ -18,3 +18,6 @@ mod walking;
 
 pub use checking::check;
 pub use fault::Fault;
+
+#[cfg(test)]
+mod tests;
