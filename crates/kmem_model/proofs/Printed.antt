@@ -304,14 +304,14 @@ share_of : (workers : ℕ) (script : Plain) (h : History) → IsScript workers s
 share_of workers script h is shared = record {
   within = keys_have (λ (e : ℕ × RecordEntry). e.0) (λ k. k < workers) h
       (λ k. ⊎_elim (λ small. inl small)
-          (λ large. inr (share_length script h k shared ∙ no_commands (worker_of k) workers script.lines (omega (arith, large)) (workers_low script.lines (recursion_from_All (λ (line : Line). (0 < line.worker) × (line.worker ≤ workers)) script.lines is.workers))))
-          (cases_lt k workers));
+      (λ large. inr (share_length script h k shared ∙ no_commands (worker_of k) workers script.lines (omega (arith, large)) (workers_low script.lines (recursion_from_All (λ (line : Line). (0 < line.worker) × (line.worker ≤ workers)) script.lines is.workers))))
+      (cases_lt k workers));
   numbers = all_by_key (λ (e : ℕ × RecordEntry). e.0) asked (λ q. q.0 < length script.lines + 1) h
       (λ k. subst (AllByRecursion (λ (q : ℕ × Command). q.0 < length script.lines + 1)) (sym (shared k))
-          (numbers_within 1 (length script.lines + 1) (commands_of (worker_of k) script.lines) (omega (arith, few_commands (worker_of k) script.lines))));
+      (numbers_within 1 (length script.lines + 1) (commands_of (worker_of k) script.lines) (omega (arith, few_commands (worker_of k) script.lines))));
   values = all_by_key (λ (e : ℕ × RecordEntry). e.0) asked (λ q. IsWithValue q.1) h
       (λ k. subst (AllByRecursion (λ (q : ℕ × Command). IsWithValue q.1)) (sym (shared k))
-          (numbered_values 1 (commands_of (worker_of k) script.lines) (values_kept (worker_of k) script.lines (recursion_from_All (λ (line : Line). IsWithValue line.command) script.lines is.values))));
+      (numbered_values 1 (commands_of (worker_of k) script.lines) (values_kept (worker_of k) script.lines (recursion_from_All (λ (line : Line). IsWithValue line.command) script.lines is.values))));
 }
   where
     workers_low : (lines : List Line) → AllByRecursion (λ (line : Line). (0 < line.worker) × (line.worker ≤ workers)) lines → AllByRecursion (λ (line : Line). line.worker ≤ workers) lines
@@ -495,7 +495,7 @@ is_printed workers script h few is history =
         word_avoids (codes "=== replies") refl,
         all_both (Avoids 10) (map (reply_line script.names) (by_worker workers given)) (codes "=== history" ∷ map place_line given)
             (all_mapped (reply_line script.names) (Avoids 10) (λ (a : ReplyAt). IsPlainReply a.reply) (by_worker workers given) (λ a p. line_avoids script.names a names p)
-                (all_parts (λ (a : ReplyAt). a.worker) (λ (a : ReplyAt). IsPlainReply a.reply) given (range_with_len 1 workers) plain))
+            (all_parts (λ (a : ReplyAt). a.worker) (λ (a : ReplyAt). IsPlainReply a.reply) given (range_with_len 1 workers) plain))
             (word_avoids (codes "=== history") refl, all_mapped place_line (Avoids 10) (λ (a : ReplyAt). IsPlainReply a.reply) given (λ a p. place_avoids a) plain),
       );
     }

@@ -173,9 +173,9 @@ module _ {X : Type 0} (key : X → ℕ) where
       on k = ⊎_elim
           (λ p. inl p)
           (λ none. ⊎_elim
-              (λ mine. absurd (omega (arith, none, ap length (kept k x xs mine))))
-              (λ other. inr (sym (ap length (left_out k x xs other)) ∙ none))
-              (cases_eq (key x) k))
+          (λ mine. absurd (omega (arith, none, ap length (kept k x xs mine))))
+          (λ other. inr (sym (ap length (left_out k x xs other)) ∙ none))
+          (cases_eq (key x) k))
           (h k)
 
   -- what holds of all holds of the parts

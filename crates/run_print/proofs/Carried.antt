@@ -4,7 +4,6 @@ use Rattle.std.specs.List.{flat_map, range_with_len}
 use Rattle.std.specs.Io.KnownBytes.{Appends}
 use Rattle.std.proofs.lemmas.List.{append-nil, take_more, drop_more, take-append-drop, map-append}
 use Rattle.std.proofs.lemmas.Grind.{flat_map-append}
-
 use Rattle.std.proofs.lemmas.Bool.{cond_both}
 use Rattle.kmem_io.specs.Streams.{AppendsFront, Appends-then}
 use Rattle.kmem_model.specs.declared.record_entry.RecordEntry.{RecordEntry}

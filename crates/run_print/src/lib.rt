@@ -7,5 +7,5 @@ mod print;
 pub use page::Page;
 pub use print::print_run;
 
-
-
+#[cfg(test)]
+mod tests;
