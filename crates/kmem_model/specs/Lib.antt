@@ -25,5 +25,6 @@ pub mod PlacesLaw
 pub mod PlacesRows
 pub mod Report
 pub mod RunLines
+pub mod Checked
 pub mod SettleEntries
 pub mod SettleMarks

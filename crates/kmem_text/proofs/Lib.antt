@@ -5,3 +5,5 @@ pub mod Parts
 pub mod LaidOut
 pub mod Workers
 pub mod Used
+pub mod Reread
+pub mod Cut

@@ -8,3 +8,4 @@ pub mod Faults
 pub mod Tokens
 pub mod Layout
 pub mod Scripts
+pub mod ReplyRows

@@ -1,6 +1,6 @@
 //! An input cut into lines, and what each of them spells.
 
-ghost use Rattle.std.specs.Prelude.{◌≡◌, ◌==◌, ◌<◌, ◌≤◌, ◌∷◌, ◌++◌, [], length, take, None, IfOk, OnOk, IfErr, position};
+ghost use Rattle.std.specs.Prelude.{◌≡◌, ◌==◌, ◌<◌, ◌≤◌, ◌∷◌, ◌++◌, ◌-◌, ℕ, List, [], length, take, drop, None, IfOk, OnOk, IfErr, position};
 ghost use Rattle.std.specs.List.{slice_split};
 ghost use Rattle.kmem_text.specs.Grammar.{lines_of, spelled_lines, first_bad_of};
 ghost use Rattle.kmem_text.specs.Faults.{Explains};
@@ -67,10 +67,14 @@ fn keep(lines: &mut Vec<SpelledLine>, line: SpelledLine) -> Result<(), AllocErro
 }
 
 /// The first line of an input that isn't empty, and what stands behind its line feed.
-fn cut_line(bytes: &[u8]) -> (&[u8], &[u8])
+pub fn cut_line(bytes: &[u8]) -> (&[u8], &[u8])
     requires { 0 < length bytes.now }
     ensures lines { lines_of bytes.now ≡ result.0.now ∷ lines_of result.1.now }
     ensures shorter { length result.1.now < length bytes.now }
+    ensures behind { result.1.now ≡ drop (length bytes.now - length result.1.now) bytes.now }
+    // where something stands behind it, the line is one whatever stands there
+    ensures whole { 0 < length result.1.now → (more : List ℕ) →
+        lines_of (take (length bytes.now - length result.1.now) bytes.now ++ more) ≡ result.0.now ∷ lines_of more }
 {
     match line_feed(bytes) {
         Some(end) => (&bytes[..end], &bytes[end + 1..]),

@@ -1,0 +1,15 @@
+pub mod Fronts
+pub mod Asked
+pub mod KeptMaps
+pub mod Mirrors
+pub mod ShareLists
+pub mod Placed
+pub mod Replaying
+pub mod CutParts
+pub mod Standing
+pub mod Unique
+pub mod PlacesStand
+pub mod Totals
+pub mod Whole
+pub mod Walk
+pub mod Verdict

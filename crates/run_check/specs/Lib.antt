@@ -1,0 +1,12 @@
+pub mod Cursor
+pub mod Told
+pub mod Faults
+pub mod PlainMaps
+pub mod Kept
+pub mod Replays
+pub mod Shares
+pub mod Turns
+pub mod Replayed
+pub mod Verdicts
+pub mod Scripts
+pub mod Readings
