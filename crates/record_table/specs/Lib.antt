@@ -9,4 +9,3 @@ pub mod Runs
 pub mod Asks
 pub mod Openings
 pub mod Closing
-pub mod Bench
