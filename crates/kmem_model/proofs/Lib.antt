@@ -33,3 +33,6 @@ pub mod HistoryTags
 pub mod CacheCounts
 pub mod SettleEntries
 pub mod SettleMarks
+pub mod PrintedLists
+pub mod Printed
+pub mod SamePlaces

@@ -24,5 +24,6 @@ pub mod PlacesEvent
 pub mod PlacesLaw
 pub mod PlacesRows
 pub mod Report
+pub mod RunLines
 pub mod SettleEntries
 pub mod SettleMarks

@@ -10,6 +10,7 @@ mod laws;
 mod plan;
 mod record_entry;
 mod record_laws;
+mod run_laws;
 mod settle_laws;
 
 pub use cache_entry::{CacheEntry, Said};
@@ -20,6 +21,7 @@ pub use laws::{law_alloc_or_full, law_begin_or_idle, law_order, law_places, law_
 pub use plan::Plan;
 pub use record_entry::RecordEntry;
 pub use record_laws::{law_one, law_one_step, law_out, law_room, law_step};
+pub use run_laws::{law_just_these, law_printed};
 pub use settle_laws::{
     law_fewest, law_moves, law_rest_marked, law_scans, law_settle, law_settle_entries,
     law_settle_rows, law_whole,

@@ -1,5 +1,5 @@
 -- Each name of the script that lines are stands in one of its commands.
-use Rattle.std.proofs.Common.{◌≡◌, ℕ, ◌<◌, ◌≤◌, suc, List, [], ◌∷◌, Ordering, length, get_or, map, refl, sym, ap, ◌∙◌, subst, arith}
+use Rattle.std.proofs.Common.{◌≡◌, true, ℕ, ◌<◌, ◌≤◌, suc, List, [], ◌∷◌, Ordering, length, get_or, map, refl, sym, ap, ◌∙◌, subst, arith}
 use Rattle.std.specs.declared.cmp.Ordering.TheVariants.{Equal}
 use Rattle.std.specs.List.{fold, flat_map, All, AllByRecursion, Any, Contains}
 use Rattle.std.specs.List.Sorted.{IsStrictlySortedBy}
@@ -8,10 +8,12 @@ use Rattle.std.specs.Cmp.{tied_itself}
 use Rattle.std.specs.Cmp.Lexicographic.{slice_cmp, nat_list_cmp_total}
 use Rattle.std.specs.BTreeSet.{insert_key}
 use Rattle.std.proofs.lemmas.List.{get_or_default, get_or-map, length-map}
-use Rattle.std.proofs.lemmas.List.Elements.{All-nil, All-append, All-contains_itself, recursion_from_All}
+use Rattle.std.proofs.lemmas.List.Elements.{All-nil, All-cons, All-append, All-contains_itself, recursion_from_All}
 use Rattle.std.proofs.lemmas.Map.Views.{All-insert_key}
 use Rattle.kmem_text.specs.Grammar.{Plain, in_order, named, place_of, placed, IsWithinNames, IsWithinTags}
-use Rattle.kmem_text.specs.Scripts.{places_in, IsUsed, IsScript}
+use Rattle.kmem_text.specs.Texts.{is_name}
+use Rattle.kmem_text.specs.Layout.{IsGoodCommand}
+use Rattle.kmem_text.specs.Scripts.{places_in, IsUsed, IsScript, IsWithValue}
 use Rattle.kmem_text.specs.declared.command.Line.{Line}
 use Rattle.kmem_text.specs.declared.spelling.Spelled.{Spelled}
 use Rattle.kmem_text.specs.declared.spelling.Spelled.TheVariants.{Put, Get, Del, First, Next, Count, Link, Hold, Read, Write, Drop, Fix, Loose}
@@ -33,6 +35,12 @@ All-weaker P Q xs f h = λ k d small. f (get_or xs k d) (h k d small)
 All-inserts : (P : List ℕ → Type 0) (names more : List (List ℕ)) → All P names → AllByRecursion P more → All P (fold (insert_key by_bytes) names more)
 All-inserts P names [] h k = h
 All-inserts P names (x ∷ more) h k = All-inserts P (insert_key by_bytes names x) more (All-insert_key by_bytes x P names h k.0) k.1
+
+no_name : All (λ n. is_name n ≡ true) []
+no_name = All-nil (λ n. is_name n ≡ true)
+
+one_name : (n : List ℕ) → is_name n ≡ true → All (λ x. is_name x ≡ true) (n ∷ [])
+one_name n h = All-cons (λ x. is_name x ≡ true) n [] h no_name
 
 -- one line more in front
 named_still : (line : SpelledLine) (lines : List SpelledLine) (name : List ℕ) → IsNamed lines name → IsNamed (line ∷ lines) name
@@ -92,16 +100,45 @@ workers_placed most names lines h = λ k d small.
     let none : SpelledLine = record { worker = 0; command = First } in
     subst (λ (line : Line). (0 < line.worker) × (line.worker ≤ most)) (sym (get_or-map line_of lines k none d below)) (h k none below)
 
+-- the names of good commands are names
+names_good : (command : Spelled) → IsGoodCommand command → All (λ n. is_name n ≡ true) (named command)
+names_good (Put n v) h = one_name n h.0
+names_good (Get n) h = one_name n h
+names_good (Del n) h = one_name n h
+names_good First h = no_name
+names_good (Next n) h = one_name n h
+names_good Count h = no_name
+names_good (Link n m) h = All-cons (λ x. is_name x ≡ true) n (m ∷ []) h.0 (one_name m h.1)
+names_good (Hold t n) h = one_name n h.1
+names_good (Read t) h = no_name
+names_good (Write t v) h = no_name
+names_good (Drop t) h = no_name
+names_good (Fix n) h = one_name n h
+names_good (Loose n) h = one_name n h
+
+lines_good : (lines : List SpelledLine) → AllByRecursion (λ (line : SpelledLine). IsGoodCommand line.command) lines → All (λ n. is_name n ≡ true) (flat_map (λ line. named line.command) lines)
+lines_good [] h = no_name
+lines_good (line ∷ lines) h = All-append (λ n. is_name n ≡ true) (named line.command) (flat_map (λ line. named line.command) lines) (names_good line.command h.0) (lines_good lines h.1)
+
+all_good : (lines : List SpelledLine) → All (λ (line : SpelledLine). IsGoodCommand line.command) lines → All (λ n. is_name n ≡ true) (in_order (flat_map (λ line. named line.command) lines))
+all_good lines h =
+    let more = flat_map (λ (line : SpelledLine). named line.command) lines in
+    All-inserts (λ n. is_name n ≡ true) [] more no_name
+    (recursion_from_All (λ n. is_name n ≡ true) more (lines_good lines (recursion_from_All (λ (line : SpelledLine). IsGoodCommand line.command) lines h)))
+
 -- names and lines that were made of these lines are a script
 pub made_whole : (most : ℕ) (lines : List SpelledLine) (script : Plain) → length lines ≤ 100000 → All (λ (line : SpelledLine). (0 < line.worker) × (line.worker ≤ most)) lines
     → IsStrictlySortedBy by_bytes script.names → script.names ≡ in_order (flat_map (λ line. named line.command) lines)
     → script.lines ≡ map (λ line. record { worker = line.worker; command = placed script.names line.command }) lines
-    → All (λ (line : Line). IsWithinNames (length script.names) line.command) script.lines → All (λ (line : Line). IsWithinTags line.command) script.lines → IsScript most script
-made_whole most lines script few workers sorted names are places tags = record {
+    → All (λ (line : Line). IsWithinNames (length script.names) line.command) script.lines → All (λ (line : Line). IsWithinTags line.command) script.lines
+    → All (λ (line : Line). IsWithValue line.command) script.lines → All (λ (line : SpelledLine). IsGoodCommand line.command) lines → IsScript most script
+made_whole most lines script few workers sorted names are places tags values good = record {
   sorted = sorted;
+  named = subst (All (λ n. is_name n ≡ true)) (sym names) (all_good lines good);
   used = λ place small. subst (λ (ls : List Line). IsUsed ls place) (sym are) (all_used script.names lines sorted names place small);
   places = places;
   tags = tags;
+  values = values;
   workers = subst (All (λ (line : Line). (0 < line.worker) × (line.worker ≤ most))) (sym are) (workers_placed most script.names lines workers);
   few = omega (arith, few, simp length-map at (ap length are));
   few_names = omega (arith, few, ap length names, length-in_order lines);

@@ -1,15 +1,14 @@
 -- What a script is: names in order, each of them used, and lines within them (this project's own format).
-use Rattle.std.specs.Prelude.{◌<◌, ◌≤◌, ℕ, List, [], ◌∷◌, length, All, Any, Contains}
+use Rattle.std.specs.Prelude.{◌≡◌, ◌<◌, ◌≤◌, ℕ, true, List, [], ◌∷◌, length, All, Any, Contains}
 use Rattle.std.specs.List.Sorted.{IsStrictlySortedBy}
 use Rattle.std.specs.Cmp.Lexicographic.{slice_cmp}
 use Rattle.std.specs.Ordering.{nat_cmp}
 use Rattle.kmem_text.specs.Grammar.{Plain, IsWithinNames, IsWithinTags}
+use Rattle.kmem_text.specs.Texts.{is_name, is_value}
 use Rattle.kmem_text.specs.declared.command.Command.{Command}
 use Rattle.kmem_text.specs.declared.command.Command.TheVariants as command
 use Rattle.kmem_text.specs.declared.command.Line.{Line}
 use Rattle.kmem_text.specs.declared.command.Script.{Script}
-use Rattle.kmem_text.specs.declared.spelling.Spelled.{Spelled}
-use Rattle.kmem_text.specs.declared.spelling.Spelled.TheVariants as spelled
 
 -- the script without where it lies in memory
 abbrev pub plain : Script → Plain
@@ -35,22 +34,22 @@ IsUsed lines place = Any (λ (line : Line). Contains (places_in line.command) pl
 abbrev pub IsWorker : ℕ → ℕ → Type 0
 IsWorker most worker = (0 < worker) × (worker ≤ most)
 
+-- the value of the command, if it has one, is a value
+abbrev pub IsWithValue : Command → Type 0
+IsWithValue (command.Put n v) = is_value v ≡ true
+IsWithValue (command.Write t v) = is_value v ≡ true
+IsWithValue _ = Unit {0}
+
 -- a script for workers 1 to `most`
 pub record IsScript (most : ℕ) (script : Plain) : Type 0 where
   -- names ascend by their bytes, so each stands once
   pub sorted : IsStrictlySortedBy (slice_cmp nat_cmp) script.names
+  pub named : All (λ name. is_name name ≡ true) script.names
   pub used : (place : ℕ) → place < length script.names → IsUsed script.lines place
   pub places : All (λ (line : Line). IsWithinNames (length script.names) line.command) script.lines
   pub tags : All (λ (line : Line). IsWithinTags line.command) script.lines
+  pub values : All (λ (line : Line). IsWithValue line.command) script.lines
   pub workers : All (λ (line : Line). IsWorker most line.worker) script.lines
   pub few : length script.lines ≤ 100000
   -- a command names two names at the most
   pub few_names : length script.names ≤ 200000
-
--- the tag of a command, if it has one, is one of 0 to 7
-abbrev pub IsSpelledWithinTags : Spelled → Type 0
-IsSpelledWithinTags (spelled.Hold t n) = t < 8
-IsSpelledWithinTags (spelled.Read t) = t < 8
-IsSpelledWithinTags (spelled.Write t v) = t < 8
-IsSpelledWithinTags (spelled.Drop t) = t < 8
-IsSpelledWithinTags _ = Unit {0}

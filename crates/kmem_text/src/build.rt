@@ -1,16 +1,18 @@
 //! The one way in which a script is made: of lines whose names are spelled out.
 
-ghost use Rattle.std.specs.Prelude.{◌≡◌, ◌<◌, ◌≤◌, ◌^◌, List, ℕ, length, map, All, IfOk, OnOk};
+ghost use Rattle.std.specs.Prelude.{◌≡◌, ◌<◌, ◌≤◌, ◌^◌, true, List, ℕ, length, map, All, IfOk, OnOk};
 ghost use Rattle.std.specs.List.{flat_map, fold, AllByRecursion};
 ghost use Rattle.std.specs.BTreeSet.{insert_key};
 ghost use Rattle.std.specs.List.Sorted.{IsStrictlySortedBy};
 ghost use Rattle.std.specs.Cmp.Lexicographic.{slice_cmp};
 ghost use Rattle.std.specs.Ordering.{nat_cmp};
 ghost use Rattle.kmem_text.specs.Grammar.{script_of_lines, in_order, place_of, placed, named, IsAmongNames, IsWithinNames, IsWithinTags};
-ghost use Rattle.kmem_text.specs.Scripts.{plain, IsScript, IsWorker, IsSpelledWithinTags};
+ghost use Rattle.kmem_text.specs.Texts.{is_name, is_value};
+ghost use Rattle.kmem_text.specs.Layout.{IsGoodCommand};
+ghost use Rattle.kmem_text.specs.Scripts.{plain, IsScript, IsWorker, IsWithValue};
 
 use super::spelling::{Spelled, SpelledLine};
-use super::{Command, Line, Name, NameId, Script};
+use super::{Command, Line, Name, NameId, Script, Tag, Value};
 use std::alloc::{AllocError, Global};
 use std::collections::BTreeSet;
 
@@ -22,6 +24,7 @@ impl Script {
         ensures whole { IfOk result (λ script. (most : ℕ) → All (λ line. IsWorker most line.worker) lines.now →
             IsScript most (plain script)) }
     {
+        law_good_lines(lines);
         let names = names_of(alloc, lines)?;
         let lines = placed_lines(alloc, lines, &names)?;
         Ok(Script { names, lines })
@@ -78,6 +81,7 @@ fn placed_lines(
     requires there { All (λ line. AllByRecursion (IsAmongNames names.now) (named line.command)) lines.now }
     ensures within { IfOk result (λ placed_lines. All (λ line. IsWithinNames (length names.now) line.command) placed_lines.items) }
     ensures tags { IfOk result (λ placed_lines. All (λ line. IsWithinTags line.command) placed_lines.items) }
+    ensures values { IfOk result (λ placed_lines. All (λ line. IsWithValue line.command) placed_lines.items) }
     ensures lines { IfOk result (λ placed_lines. placed_lines.items
         ≡ map (λ line. record { worker = line.worker; command = placed names.now line.command }) lines.now) }
 {
@@ -99,8 +103,9 @@ fn placed(command: &Spelled, names: &[Name]) -> Command
     ensures command { result ≡ placed names.now command.now }
     ensures within { IsWithinNames (length names.now) result }
     ensures tags { IsWithinTags result }
+    ensures values { IsWithValue result }
 {
-    law_tags(command);
+    law_good(command);
     match command {
         Spelled::Put(name, value) => Command::Put(place_of(names, name), *value),
         Spelled::Get(name) => Command::Get(place_of(names, name)),
@@ -118,17 +123,62 @@ fn placed(command: &Spelled, names: &[Name]) -> Command
     }
 }
 
-/// A command's tag, if it has one, is within the range of tags.
-fn law_tags(command: &Spelled)
-    ensures { IsSpelledWithinTags command.now }
+/// A command's names are names, its value is a value, and its tag is a tag, as their types are.
+fn law_good(command: &Spelled)
+    ensures { IsGoodCommand command.now }
 {
     match command {
-        Spelled::Hold(tag, _) | Spelled::Read(tag) | Spelled::Write(tag, _) | Spelled::Drop(tag) =>
-            {
-                let _ = tag.number();
-            }
-        _ => {}
+        Spelled::Put(name, value) => {
+            law_name(name);
+            law_value(value);
+        }
+        Spelled::Get(name)
+        | Spelled::Del(name)
+        | Spelled::Next(name)
+        | Spelled::Fix(name)
+        | Spelled::Loose(name) => law_name(name),
+        Spelled::Link(name, other) => {
+            law_name(name);
+            law_name(other);
+        }
+        Spelled::Hold(tag, name) => {
+            law_tag(tag);
+            law_name(name);
+        }
+        Spelled::Write(tag, value) => {
+            law_tag(tag);
+            law_value(value);
+        }
+        Spelled::Read(tag) | Spelled::Drop(tag) => law_tag(tag),
+        Spelled::First | Spelled::Count => {}
     }
+}
+
+/// So are those of all these lines.
+fn law_good_lines(lines: &[SpelledLine])
+    ensures { All (λ line. IsGoodCommand line.command) lines.now }
+{
+    for line in lines {
+        law_good(&line.command);
+    }
+}
+
+fn law_name(name: &Name)
+    ensures { is_name name.now ≡ true }
+{
+    let _ = name.as_bytes();
+}
+
+fn law_value(value: &Value)
+    ensures { is_value value.now ≡ true }
+{
+    let _ = value.as_bytes();
+}
+
+fn law_tag(tag: &Tag)
+    ensures { tag.now < 8 }
+{
+    let _ = tag.number();
 }
 
 /// The place of a name that is there. By binary search.

@@ -1,6 +1,6 @@
 //! Names and values: short texts, each in place.
 
-ghost use Rattle.std.specs.Prelude.{◌≡◌, ◌==◌, ◌<◌, ◌≤◌, length, Some, None, ⊤, if◌then◌else◌};
+ghost use Rattle.std.specs.Prelude.{◌≡◌, ◌==◌, ◌<◌, ◌≤◌, true, length, Some, None, ⊤, if◌then◌else◌};
 ghost use Rattle.std.specs.List.{list_all};
 ghost use Rattle.std.specs.Cmp.Lexicographic.{slice_cmp, pointwise};
 ghost use Rattle.std.proofs.Common.{rules};
@@ -104,6 +104,7 @@ impl Name {
     pub fn as_bytes(&self) -> &[u8]
         ensures text { result.now ≡ self.now }
         ensures short { length self.now ≤ 32 }
+        ensures good { is_name self.now ≡ true }
     {
         &self.bytes[..self.len as usize]
     }
@@ -194,6 +195,7 @@ impl Value {
     pub fn as_bytes(&self) -> &[u8]
         ensures text { result.now ≡ self.now }
         ensures short { length self.now ≤ 64 }
+        ensures good { is_value self.now ≡ true }
     {
         &self.bytes[..self.len as usize]
     }

@@ -16,7 +16,8 @@ use Rattle.record_heap.specs.View.{HeapView, HoldState, IsHoldAt, IsFrame}
 use Rattle.kmem_model.specs.CacheOrder.{least_below}
 use Rattle.std.specs.Option.{option_or}
 use Rattle.std.proofs.lemmas.List.Sums.{sum_by-set}
-use Rattle.kmemrun.specs.Bench.{BenchView, StandsAt, IsOfBench, IsCarriedOut, IsHoldAtPlace, reply_in}
+use Rattle.kmemrun.specs.Bench.{BenchView, StandsAt, Stands, IsOfBench, IsCarriedOut, CarriesOut, IsHoldAtPlace, reply_in}
+use Rattle.kmem_text.specs.Replies.{IsReplyWithinNames}
 use Rattle.std.specs.Option.{IfSome}
 use Rattle.kmem_buf.specs.Buffers.{BufState}
 use Rattle.kmem_model.specs.Heap.{Object}
@@ -212,3 +213,11 @@ place_there h b e = mapped h.objects b ∙ leftover_there (object_at h b) (found
 pub held_on : (old new : HeapView) (place : ℕ) (x : Option HoldState) → new.holds ≡ old.holds → IfSome x (IsHoldAtPlace old place) → IfSome x (IsHoldAtPlace new place)
 held_on old new place None same held = tt
 held_on old new place (Some hold) same held = (subst (λ hs. IsHoldAt hs hold) (sym same) held.0, held.1)
+
+-- a reply of a command that was carried out names a name of the bench
+pub reply_within : (old new : BenchView) (worker : ℕ) (command : Command) (reply : Reply) → Stands old → CarriesOut old worker command reply new →
+    ((s : OneState) → IsReplyWithinNames (length s.map.names) (one_step s worker command).reply) → IsReplyWithinNames (length old.heap.heap.names) reply
+reply_within old new worker command reply stands does within =
+    let s = stands.0 in
+    let sizes : length old.heap.heap.names ≡ length s.map.names = ap length stands.1.stands.stands.paired.names ∙ length-map s.map.names (option_map (address_in s.addresses)) in
+    subst (λ n. IsReplyWithinNames n reply) (sym sizes) (subst (IsReplyWithinNames (length s.map.names)) (sym (does.out s stands.1).replies) (within s))

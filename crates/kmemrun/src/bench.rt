@@ -1,6 +1,7 @@
 //! What `one` runs on: a cache, the records in its buffers, and the holds of all tags.
 
 ghost use Rattle.std.specs.Prelude.{◌≡◌, ◌<◌, ◌≤◌, ◌*◌, ℕ, true, length, slice_index_or, None, IfOk};
+ghost use Rattle.kmem_text.specs.Grammar.{IsWithinNames};
 ghost use Rattle.kmem_text.specs.Replies.{IsReplyWithinNames};
 ghost use Rattle.kmem_model.specs.OneRun.{run_start, is_settle_due};
 ghost use Rattle.kmemrun.specs.Bench.{Stands, RunsAt, IsOfBench, CarriesOut, IsGoodLine, Answers, looks_at_names};
@@ -97,27 +98,26 @@ impl Bench {
         match command {
             Command::Put(name, value) => self.put(worker, *name, *value),
             Command::Del(name) => self.del(worker, *name),
-            Command::Link(name, other) => self.link(worker, *name, *other),
-            Command::Fix(name) => self.fix(worker, *name),
-            Command::Loose(name) => self.loose(worker, *name),
+            Command::Link(name, other) => self.link(*name, *other),
+            Command::Fix(name) => self.fix(*name),
+            Command::Loose(name) => self.loose(*name),
             Command::Hold(tag, name) => self.hold(worker, *tag, *name),
             Command::Read(tag) => self.read(worker, *tag),
             Command::Write(tag, value) => self.write(worker, *tag, *value),
             Command::Drop(tag) => self.release(worker, *tag),
             Command::Get(_) | Command::First | Command::Next(_) | Command::Count => {
-                self.look(worker, command)
+                self.look(command)
             }
         }
     }
 
     // Commands on names that only look.
-    fn look(&self, worker: u32, command: &Command) -> Reply
-        requires command { IsOfBench self.now worker command.now }
+    fn look(&self, command: &Command) -> Reply
+        requires names { IsWithinNames (length self.now.heap.heap.names) command.now }
         requires looks { looks_at_names command.now ≡ true }
-        ensures { CarriesOut self.now worker command.now result self.now }
+        ensures { (worker : ℕ) → CarriesOut self.now worker command.now result self.now }
     {
         law_one_step();
-        let _ = worker;
         match command {
             Command::Get(name) => self.heap.get(*name),
             Command::First => self.heap.first(),

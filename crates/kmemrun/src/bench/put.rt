@@ -1,6 +1,7 @@
 //! Commands that make, change and end records.
 
-ghost use Rattle.std.specs.Prelude.{◌≡◌, true, Some, None, is_some};
+ghost use Rattle.std.specs.Prelude.{◌≡◌, ℕ, true, Some, None, is_some, length};
+ghost use Rattle.kmem_text.specs.Grammar.{IsWithinNames};
 ghost use Rattle.kmem_text.specs.declared.command.Command.TheVariants.{Put, Del, Link, Fix, Loose};
 ghost use Rattle.kmem_model.specs.Heap.{address_of};
 ghost use Rattle.kmemrun.specs.Bench.{Stands, IsOfBench, CarriesOut, reply_in};
@@ -63,36 +64,33 @@ impl Bench {
         reply
     }
 
-    pub fn link(&mut self, worker: u32, name: NameId, other: NameId) -> Reply
+    pub fn link(&mut self, name: NameId, other: NameId) -> Reply
         requires stands { Stands self.old }
-        requires command { IsOfBench self.old worker (Link name other) }
-        ensures carried_out { CarriesOut self.old worker (Link name other) result self.new }
+        requires names { IsWithinNames (length self.old.heap.heap.names) (Link name other) }
+        ensures carried_out { (worker : ℕ) → CarriesOut self.old worker (Link name other) result self.new }
     {
         law_one_step();
         law_step();
-        let _ = worker;
         self.heap.link(name, other)
     }
 
-    pub fn fix(&mut self, worker: u32, name: NameId) -> Reply
+    pub fn fix(&mut self, name: NameId) -> Reply
         requires stands { Stands self.old }
-        requires command { IsOfBench self.old worker (Fix name) }
-        ensures carried_out { CarriesOut self.old worker (Fix name) result self.new }
+        requires names { IsWithinNames (length self.old.heap.heap.names) (Fix name) }
+        ensures carried_out { (worker : ℕ) → CarriesOut self.old worker (Fix name) result self.new }
     {
         law_one_step();
         law_step();
-        let _ = worker;
         self.heap.fix(name)
     }
 
-    pub fn loose(&mut self, worker: u32, name: NameId) -> Reply
+    pub fn loose(&mut self, name: NameId) -> Reply
         requires stands { Stands self.old }
-        requires command { IsOfBench self.old worker (Loose name) }
-        ensures carried_out { CarriesOut self.old worker (Loose name) result self.new }
+        requires names { IsWithinNames (length self.old.heap.heap.names) (Loose name) }
+        ensures carried_out { (worker : ℕ) → CarriesOut self.old worker (Loose name) result self.new }
     {
         law_one_step();
         law_step();
-        let _ = worker;
         self.heap.loose(name)
     }
 }

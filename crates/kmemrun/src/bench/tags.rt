@@ -35,7 +35,7 @@ impl Bench {
         law_step();
         match &mut self.holds[place_of(worker, tag)] {
             Some(hold) => self.heap.read(hold),
-            None => self.heap.idle(worker, tag),
+            None => self.heap.idle(),
         }
     }
 
@@ -49,7 +49,7 @@ impl Bench {
         law_step();
         match &mut self.holds[place_of(worker, tag)] {
             Some(hold) => self.heap.write(hold, value),
-            None => self.heap.idle(worker, tag),
+            None => self.heap.idle(),
         }
     }
 
@@ -63,7 +63,7 @@ impl Bench {
         law_step();
         match self.holds[place_of(worker, tag)].take() {
             Some(hold) => self.heap.release(hold),
-            None => self.heap.idle(worker, tag),
+            None => self.heap.idle(),
         }
     }
 }

@@ -89,13 +89,12 @@ impl RecordHeap {
         Reply::Done
     }
 
-    /// What is said of a tag that isn't in use.
-    pub fn idle(&self, worker: u32, tag: Tag) -> Reply
-        requires { hold_at self.now.heap (tag_place worker tag) ≡ None }
+    /// What is said of a tag that isn't in use, whichever it is.
+    pub fn idle(&self) -> Reply
         ensures reply { result ≡ Reply.Idle }
-        ensures step { IsReplyBy self.now.heap (λ m. (read_step m (held_at m (tag_place worker tag))).reply) result }
+        ensures step { (place : ℕ) → hold_at self.now.heap place ≡ None →
+            IsReplyBy self.now.heap (λ m. (read_step m (held_at m place)).reply) result }
     {
-        let _ = (worker, tag);
         Reply::Idle
     }
 }

@@ -140,7 +140,7 @@ fn idle_at_first(rt: HostRuntime) -> Result<(), Fail> {
     let row = row_of_four(rt.alloc())?;
     let home = Home::of(&row.cells, &Vec::new(rt.alloc()));
     let heap = RecordHeap::create(rt.alloc(), home, 16, 4, 2)?;
-    assert_eq!(rt; show(heap.idle(1, Tag::new(0))), Shown::Idle);
+    assert_eq!(rt; show(heap.idle()), Shown::Idle);
     Ok(())
 }
 

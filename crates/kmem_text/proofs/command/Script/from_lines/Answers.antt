@@ -12,4 +12,4 @@ placed_lines-requires-clause-there c = rw (c.deref.ensures.value, c.in_ok-names.
 
 pub returns-clause-whole : goal.returns-clause-whole
 returns-clause-whole c = λ most workers. made_whole most c.args.lines.now (plain (record { names = c.in_ok-names.names; lines = c.in_ok-lines.lines })) c.requires workers
-    c.in_ok-names.ensures.sorted c.in_ok-names.ensures.names (rw (← c.deref.ensures.value) c.in_ok-lines.ensures.lines) (rw (← c.deref.ensures.value) c.in_ok-lines.ensures.within) c.in_ok-lines.ensures.tags
+    c.in_ok-names.ensures.sorted c.in_ok-names.ensures.names (rw (← c.deref.ensures.value) c.in_ok-lines.ensures.lines) (rw (← c.deref.ensures.value) c.in_ok-lines.ensures.within) c.in_ok-lines.ensures.tags c.in_ok-lines.ensures.values c.law_good_lines.ensures

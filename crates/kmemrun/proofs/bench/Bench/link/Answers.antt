@@ -10,14 +10,14 @@ returns c =
     let old : BenchView = record { cache = f.cache; heap = f.heap; holds = f.holds.items; settled = f.settled } in
     let new : BenchView = record old { heap = c.link.new.self } in
     record {
-      carried_out = record {
+      carried_out = λ worker. record {
         out = λ s given.
             let at = subst (StandsAt s) (sym c.self.view_is) given in
             let ends =
-            c.law_one_step.ensures.leaving s f.heap.heap c.link.new.self.heap c.args.worker (Link c.args.name c.args.other) at.stands refl
+            c.law_one_step.ensures.leaving s f.heap.heap c.link.new.self.heap worker (Link c.args.name c.args.other) at.stands refl
             (c.link.ensures.stands s.map s.addresses at.stands.stands) c.link.ensures.places in
-            carried old new s c.args.worker (Link c.args.name c.args.other) c.link.result _ s.cache at ends (c.link.ensures.reply s.map s.addresses at.stands.stands) at.cache refl c.link.ensures.frame
-            (held_same old new s c.args.worker (Link c.args.name c.args.other) at ends.stands (c.law_one_step.ensures.tags s c.args.worker (Link c.args.name c.args.other) refl) (λ place. refl));
+            carried old new s worker (Link c.args.name c.args.other) c.link.result _ s.cache at ends (c.link.ensures.reply s.map s.addresses at.stands.stands) at.cache refl c.link.ensures.frame
+            (held_same old new s worker (Link c.args.name c.args.other) at ends.stands (c.law_one_step.ensures.tags s worker (Link c.args.name c.args.other) refl) (λ place. refl));
         names = c.link.ensures.frame.names ∙ ap (λ (b : BenchView). length b.heap.heap.names) c.self.view_is;
         settled = ap (λ (b : BenchView). b.settled) c.self.view_is;
       };

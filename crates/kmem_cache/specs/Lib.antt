@@ -1,0 +1,9 @@
+pub mod Locked
+pub mod Turns
+pub mod Seats
+pub mod Seated
+pub mod Rooms
+pub mod Calls
+pub mod Closing
+pub mod Opening
+pub mod Reaping

@@ -1,0 +1,74 @@
+use Rattle.std.proofs.Common.{◌≡◌, [], length, Some, refl, sym, ap, ◌∙◌, subst}
+use Rattle.kmem_model.specs.CacheState.{CacheState}
+use Rattle.kmem_model.specs.Says.{stage_in}
+use Rattle.kmem_model.specs.Settle.{Stage, Course}
+use Rattle.kmem_model.specs.SettleMeasure.{settled}
+use Rattle.kmem_model.specs.One.{OneState, buffers_of}
+use Rattle.kmem_model.specs.OneRun.{OneRun, stage_of, run_after, settled_run, run_ended, without_leftovers}
+use Rattle.kmem_model.specs.Says.{AreInBuffers}
+use Rattle.run_end.specs.Ends.{StandTogether, HasFreed}
+use Rattle.run_end.proofs.Settling.{together, stand_same, stand_calm, stand_buffers, freed_same}
+use Rattle.run_end.proofs.winding.wind_up.Goals as goal
+
+pub free_leftovers-requires-clause-stand : goal.free_leftovers-requires-clause-stand
+free_leftovers-requires-clause-stand c =
+    let cache = c.args.cache.now in
+    let heap = c.args.heap.now in
+    let m = c.requires.stand.0 in
+    let addresses = c.requires.stand.1 in
+    let buffers = c.law_just_these.ensures cache.state heap.heap.objects c.law_whole.ensures.whole c.requires.size c.meet_all.ensures.out c.requires.count in (
+      record { map = m; cache = cache.state; addresses = addresses },
+      stand_same _ cache c.meet_all.new.cache heap c.meet_all.new.heap c.meet_all.ensures.cache c.meet_all.ensures.heap
+          (together m addresses cache heap c.law_whole.ensures.whole c.requires.calm c.requires.stand.2 buffers),
+    )
+
+-- what they stood for once the leftovers are gone
+stood : (c : goal.After-settle-arg-2-1) → (s : OneState) × StandTogether s c.free_leftovers.new.cache c.free_leftovers.new.heap
+stood c =
+    let cache = c.args.cache.now in
+    let heap = c.args.heap.now in
+    let m = c.requires.stand.0 in
+    let addresses = c.requires.stand.1 in
+    let buffers = c.law_just_these.ensures cache.state heap.heap.objects c.law_whole.ensures.whole c.requires.size c.meet_all.ensures.out c.requires.count in
+    let s : OneState = record { map = m; cache = cache.state; addresses = addresses } in
+    let at = stand_same s cache c.meet_all.new.cache heap c.meet_all.new.heap c.meet_all.ensures.cache c.meet_all.ensures.heap
+    (together m addresses cache heap c.law_whole.ensures.whole c.requires.calm c.requires.stand.2 buffers) in
+    (without_leftovers (buffers_of s.cache) s, (c.free_leftovers.ensures.freed s at).stands)
+
+pub settle-tally-requires-clause-calm : goal.settle-tally-requires-clause-calm
+settle-tally-requires-clause-calm c = let at = stood c in stand_calm at.0 c.free_leftovers.new.cache c.free_leftovers.new.heap at.1
+
+pub settle-tally-requires-clause-buffers : goal.settle-tally-requires-clause-buffers
+settle-tally-requires-clause-buffers c = let at = stood c in stand_buffers at.0 c.free_leftovers.new.cache c.free_leftovers.new.heap at.1
+
+pub returns-clause-buffers : goal.returns-clause-buffers
+returns-clause-buffers c = c.law_just_these.ensures c.args.cache.now.state c.args.heap.now.heap.objects c.law_whole.ensures.whole c.requires.size c.meet_all.ensures.out c.requires.count
+
+pub returns-clause-wound_up : goal.returns-clause-wound_up
+returns-clause-wound_up c =
+    let cache = c.args.cache.now in
+    let heap = c.args.heap.now in
+    let between = c.free_leftovers.new.cache in
+    let heap_between = c.free_leftovers.new.heap in
+    let freed : (s : OneState) → StandTogether s cache heap → HasFreed s cache heap between heap_between = λ s at.
+    freed_same s cache c.meet_all.new.cache between heap c.meet_all.new.heap heap_between c.meet_all.ensures.cache c.meet_all.ensures.heap
+    (c.free_leftovers.ensures.freed s (stand_same s cache c.meet_all.new.cache heap c.meet_all.new.heap c.meet_all.ensures.cache c.meet_all.ensures.heap at)) in
+    let does = c.settle-tally.ensures.settles in
+    let course : Course = record { stage = stage_in c.settle-tally.new.cache.state c.settle-tally.new.heap.heap.objects; moves = does.moves } in
+    record {
+      between = between;
+      heap_between = heap_between;
+      freed = freed;
+      settles = does;
+      stands = λ s given.
+          let at = (freed s given).stands in
+          let run : OneRun = record { state = without_leftovers (buffers_of s.cache) s; moves = [] } in
+          let stage : stage_in between.state heap_between.heap.objects ≡ stage_of run.state = ap (λ (t : CacheState). stage_in t heap_between.heap.objects) at.state ∙ c.law_one_settle.ensures.stage run.state heap_between.heap at.stands in
+          let after =
+          c.law_one_settle.ensures.settled run heap_between.heap c.settle-tally.new.heap.heap course at.stands
+          (subst (λ (t : Stage). settled t ≡ Some course) stage does.settle)
+          (c.law_stage.ensures.whole c.settle-tally.new.cache.state c.settle-tally.new.heap.heap c.law_whole-2.ensures.whole c.settle-tally.ensures.calm c.settle-tally.ensures.buffers)
+          (does.heap_moves.stands run.state.map run.state.addresses at.stands.stands)
+          c.settle-tally.ensures.buffers in
+          subst (λ (r : OneRun). StandTogether r.state c.settle-tally.new.cache c.settle-tally.new.heap) (sym after.0) (record { stands = after.1; state = refl });
+    }

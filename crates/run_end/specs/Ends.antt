@@ -1,0 +1,38 @@
+-- What follows a run: leftovers are freed, the least address first, and then comes one settle (this project's own rule).
+use Rattle.std.specs.Prelude.{ℕ, ◌≡◌, ◌+◌, Bool, true, false, List, [], ◌∷◌, map, count_by, Some, None}
+use Rattle.kmem_model.specs.CacheHistory.{Follows}
+use Rattle.kmem_model.specs.declared.cache_entry.CacheEntry.TheVariants.{Free}
+use Rattle.kmem_model.specs.Heap.{places_of}
+use Rattle.kmem_model.specs.One.{OneState, buffers_of, least_leftover}
+use Rattle.kmem_model.specs.OneRun.{without_leftover, without_leftovers, run_ended}
+use Rattle.kmem_model.specs.OneStands.{OneStands}
+use Rattle.object_cache.specs.Cache.{CacheView}
+use Rattle.object_cache.specs.declared.tally.Tally.{Tally}
+use Rattle.record_heap.specs.View.{HeapView}
+use Rattle.consolidator.specs.Settles.{SettlesTo}
+
+-- the cache and the heap in its buffers stand for a map, a state and addresses
+pub record StandTogether (s : OneState) (cache : CacheView) (heap : HeapView) : Type 0 where
+  pub stands : OneStands s heap.heap
+  pub state : cache.state ≡ s.cache
+
+-- the least leftover was freed, if there was one
+abbrev pub FreesOne : OneState → CacheView → HeapView → Bool → CacheView → HeapView → Type 0
+FreesOne s cache heap true cache' heap' =
+    (b : ℕ) × (least_leftover s ≡ Some b) × Follows cache.state (Free b ∷ []) cache'.state × StandTogether (without_leftover s b) cache' heap'
+    × (count_by (λ x. x) (places_of heap'.heap.objects) + 1 ≡ count_by (λ x. x) (places_of heap.heap.objects))
+FreesOne s cache heap false cache' heap' = (least_leftover s ≡ None) × (cache' ≡ cache) × (heap' ≡ heap)
+
+-- these buffers were freed, one after another, and no others
+pub record HasFreed (s : OneState) (cache : CacheView) (heap : HeapView) (cache' : CacheView) (heap' : HeapView) : Type 0 where
+  pub numbers : List ℕ
+  pub frees : Follows cache.state (map (λ n. Free n) numbers) cache'.state
+  pub stands : StandTogether (without_leftovers (buffers_of s.cache) s) cache' heap'
+
+-- first leftovers were freed, and then the cache was settled; what the two stood for, they stand for afterwards, at other addresses
+pub record IsWoundUp (cache : CacheView) (heap : HeapView) (cache' : CacheView) (heap' : HeapView) (settled : Tally) : Type 0 where
+  pub between : CacheView
+  pub heap_between : HeapView
+  pub freed : (s : OneState) → StandTogether s cache heap → HasFreed s cache heap between heap_between
+  pub settles : SettlesTo between cache' heap_between heap' settled
+  pub stands : (s : OneState) → StandTogether s cache heap → StandTogether (run_ended (record { state = s; moves = [] })).state cache' heap'

@@ -1,0 +1,43 @@
+//! The whole of what follows a run.
+
+ghost use Rattle.std.specs.Prelude.{◌≡◌, ℕ, List, false, is_some, length, count_by};
+ghost use Rattle.kmem_model.specs.CacheState.{has_pending, out_count};
+ghost use Rattle.kmem_model.specs.One.{OneState};
+ghost use Rattle.kmem_model.specs.Heap.{kept_count};
+ghost use Rattle.kmem_model.specs.Records.{RecordMap};
+ghost use Rattle.kmem_model.specs.Heap.{StandsFor};
+ghost use Rattle.kmem_model.specs.Says.{stage_in, AreInBuffers};
+ghost use Rattle.kmem_model.specs.SettleWhole.{IsSettled};
+ghost use Rattle.run_end.specs.Ends.{StandTogether, IsWoundUp};
+
+use crate::leftovers::free_leftovers;
+use crate::meeting::meet_all;
+use consolidator::settle;
+use kmem_model::{law_just_these, law_one_settle, law_stage};
+use object_cache::{ObjectCache, Tally};
+use record_heap::{RecordHeap, RecordKind};
+
+/// Frees the leftovers and settles, where no move is pending and the heap has as many objects as buffers are out: then these are the same,
+/// and each buffer that is out at the end has a record that lives. Takes no memory. Beside the settle it costs a few steps an object.
+pub fn wind_up(cache: &mut ObjectCache<RecordKind>, heap: &mut RecordHeap) -> Tally
+    requires calm { has_pending cache.old.state ≡ false }
+    requires count { count_by is_some heap.old.heap.objects ≡ out_count cache.old.state }
+    requires size { length heap.old.heap.objects ≡ length cache.old.state.asked }
+    requires home { heap.old.home ≡ cache.old.home }
+    requires stand { (m : RecordMap) × (addresses : List ℕ) × StandsFor m addresses heap.old.heap }
+    ensures buffers { AreInBuffers cache.old.state heap.old.heap.objects }
+    ensures wound_up { IsWoundUp cache.old heap.old cache.new heap.new result }
+    ensures settled { IsSettled (stage_in cache.new.state heap.new.heap.objects) }
+    ensures calm { has_pending cache.new.state ≡ false }
+    ensures home { cache.new.home ≡ cache.old.home }
+{
+    law_just_these();
+    law_stage();
+    law_one_settle();
+    cache.law_whole();
+    meet_all(cache, heap);
+    free_leftovers(cache, heap);
+    let tally = settle(cache, heap);
+    cache.law_whole();
+    tally
+}
