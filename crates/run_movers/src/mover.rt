@@ -43,7 +43,15 @@ impl MoverTask {
             mover: &mut self.mover,
         };
         drive(
-            rt, gate, cache, &mut self.seat, queue, &mut self.place, &mut asker, &self.plan, &mut self.tally,
+            rt,
+            gate,
+            cache,
+            &mut self.seat,
+            queue,
+            &mut self.place,
+            &mut asker,
+            &self.plan,
+            &mut self.tally,
         );
         let Asker { table: _, mover: _ } = asker;
     }
