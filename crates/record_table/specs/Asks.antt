@@ -1,5 +1,5 @@
 -- What a mover's question comes to (this project's own).
-use Rattle.std.specs.Prelude.{◌≡◌, ◌≢◌, ℕ, ◌+◌, ◌<◌, ◌≤◌, Bool, true, false, List, Option, Some, None, is_some, refl, unwrap_or}
+use Rattle.std.specs.Prelude.{◌≡◌, ◌≢◌, ℕ, ◌+◌, ◌<◌, ◌≤◌, Bool, true, false, List, [], Option, Some, None, is_some, refl, unwrap_or}
 use Rattle.std.specs.Coded.{Coded, code_by, coded×, coded_ℕ}
 use Rattle.kmem_buf.specs.Answers.{Flags, verdict_of}
 use Rattle.kmem_buf.specs.declared.client.Answer.{Answer}
@@ -50,10 +50,11 @@ pub record AreFlagsDue (flags : Flags) (h : List (ℕ × RecordEntry)) : Type 0 
   pub unneeded : flags.dont_need ≡ true → has_dropped h ≡ true
 
 -- what always holds of a mover, where this says whether its share is at hand: what its pass has seen is legal, and has of its own entries
--- exactly those that it made; and its flags are due
+-- exactly those that it made, which are none; and its flags are due
 pub record IsMover (mover : MoverState) (shared : Bool) : Type 0 where
   pub legal : IsLegalHistory (no_records mover.pass.site.home.names mover.pass.site.home.workers) mover.pass.seen
   pub exact : entries_of mover.pass.number mover.pass.seen ≡ mover.pass.mine
+  pub none : mover.pass.mine ≡ []
   pub share : IsShareAt mover.pass.site.home.shares mover.share
   pub there : shared ≡ true
   pub due : AreFlagsDue mover.flags mover.pass.seen

@@ -62,6 +62,7 @@ fn part_movers(lock: &HistLock<Records>, mut movers: Vec<Mover>, parts: Parts) -
     ensures shares { result.shares.items ≡ parts.shares.items ++ map (λ m. m.share) (reverse movers.items) }
     ensures at { All (IsShareAt lock.now.home.shares) result.shares.items }
     ensures flags { All (λ m. AreFlagsDue m.flags m.pass.seen) movers.items }
+    ensures silent { All (λ m. m.pass.mine ≡ []) movers.items }
 {
     let _ = lock;
     let Parts {
@@ -109,6 +110,7 @@ impl RecordTable {
         ensures fronts { All (λ s. IsFront s.pass.seen result.1.entries) sessions.items }
         ensures mover_fronts { All (λ m. IsFront m.pass.seen result.1.entries) movers.items }
         ensures exact { All (λ s. entries_of s.pass.number result.1.entries ≡ s.pass.mine) sessions.items }
+        ensures silent { All (λ m. entries_of m.pass.number result.1.entries ≡ []) movers.items }
         ensures numbers { IsNumbering (all_numbers sessions.items movers.items) self.count }
         ensures within { All (λ x. x.0 < self.count) result.1.entries }
         ensures room { length result.1.entries ≤ self.room }

@@ -24,6 +24,7 @@ loop-mover-preserved c =
     let lock = c.args.lock.now in
     let P : MoverState → Type 0 = λ m. m.pass.site ≡ lock in
     let D : MoverState → Type 0 = λ m. AreFlagsDue m.flags m.pass.seen in
+    let N : MoverState → Type 0 = λ m. m.pass.mine ≡ [] in
     let pass : MoverState → PassState RecordEntry TableHome = λ m. m.pass in
     let shared : MoverState → ShareState = λ m. m.share in
     let parts = All-pop P c.loop-mover.movers.items left c.pop.result c.pop.ensures.items inv.of in
@@ -42,6 +43,7 @@ loop-mover-preserved c =
         second.items ∙ ((λ i. inv.parted.3 i ++ same i ∷ [])
             ∙ (append_assoc c.args.parts.shares.items (map shared (reverse done)) (mover.share ∷ []) ∙ ap (λ l. c.args.parts.shares.items ++ l) (sym (map-more shared mover done)))),
         All-cons D mover done (subst D c.mover.view_is c.mover.invariant.due) inv.parted.4,
+        All-cons N mover done (subst N c.mover.view_is c.mover.invariant.none) inv.parted.5,
       );
       of = parts.0;
       at =

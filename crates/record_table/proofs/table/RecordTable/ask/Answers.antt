@@ -28,6 +28,7 @@ invariant_of-mover g c =
     record {
       legal = subst (λ (site : Site TableHome). IsLegalHistory (no_records site.home.names site.home.workers) seen) (sym looked.site) looked.legal;
       exact = subst (λ n. entries_of n seen ≡ a.new.pass.mine) (sym looked.number) (looked.exact ∙ sym looked.mine);
+      none = looked.mine ∙ was.none;
       share =
           subst (λ (site : Site TableHome). IsShareAt site.home.shares a.result.1) (sym looked.site)
           (subst₂ (λ n h. slice_get m.pass.site.home.shares n ≡ Some h) (sym place) (sym at) was.share);

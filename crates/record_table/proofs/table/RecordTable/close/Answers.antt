@@ -90,6 +90,13 @@ returns-clause-exact c =
     let P = exact_in c.close-records.result.1.items in
     all_first pass_of mover_pass c.args.sessions.items c.args.movers.items P (turned c P c.close-records.ensures.exact)
 
+-- a mover's own entries are none
+pub returns-clause-silent : goal.returns-clause-silent
+returns-clause-silent c =
+    let P = exact_in c.close-records.result.1.items in
+    let own = all_second pass_of mover_pass c.args.sessions.items c.args.movers.items P (turned c P c.close-records.ensures.exact) in
+    λ k d small. own k d small ∙ c.part_movers-passes.ensures.silent k d small
+
 pub returns-clause-numbers : goal.returns-clause-numbers
 returns-clause-numbers c =
     let ss = c.args.sessions.items in
