@@ -109,29 +109,24 @@ fn usage(rt: HostRuntime) -> Result<(), Fail> {
     for words in lists {
         assert!(rt; refused(&rt, rt.alloc(), words.as_slice())?, "at {words:?}");
     }
-    let others = [
-        [].as_slice(),
-        ["help"].as_slice(),
-        ["--help"].as_slice(),
-        ["one"].as_slice(),
-        ["one", "2"].as_slice(),
-        ["one", "--", "2", "2"].as_slice(),
-        ["one", "+2", "2"].as_slice(),
-        ["one", "", "2"].as_slice(),
-        ["one", "2", "2", "-1"].as_slice(),
-        ["one", "2", "2", "100001"].as_slice(),
-        ["one", "2", "2", "1", "1"].as_slice(),
-        ["check"].as_slice(),
-        ["check", "0"].as_slice(),
-        ["check", "17"].as_slice(),
-        ["check", "01"].as_slice(),
-        ["check", "1", "1"].as_slice(),
-        ["check", "help"].as_slice(),
-        ["check", "one", "2", "2"].as_slice(),
-    ];
-    for words in others {
-        assert!(rt; refused(&rt, rt.alloc(), words)?, "at {words:?}");
-    }
+    assert!(rt; refused(&rt, rt.alloc(), &[])?);
+    assert!(rt; refused(&rt, rt.alloc(), &["help"])?);
+    assert!(rt; refused(&rt, rt.alloc(), &["--help"])?);
+    assert!(rt; refused(&rt, rt.alloc(), &["one"])?);
+    assert!(rt; refused(&rt, rt.alloc(), &["one", "2"])?);
+    assert!(rt; refused(&rt, rt.alloc(), &["one", "--", "2", "2"])?);
+    assert!(rt; refused(&rt, rt.alloc(), &["one", "+2", "2"])?);
+    assert!(rt; refused(&rt, rt.alloc(), &["one", "", "2"])?);
+    assert!(rt; refused(&rt, rt.alloc(), &["one", "2", "2", "-1"])?);
+    assert!(rt; refused(&rt, rt.alloc(), &["one", "2", "2", "100001"])?);
+    assert!(rt; refused(&rt, rt.alloc(), &["one", "2", "2", "1", "1"])?);
+    assert!(rt; refused(&rt, rt.alloc(), &["check"])?);
+    assert!(rt; refused(&rt, rt.alloc(), &["check", "0"])?);
+    assert!(rt; refused(&rt, rt.alloc(), &["check", "17"])?);
+    assert!(rt; refused(&rt, rt.alloc(), &["check", "01"])?);
+    assert!(rt; refused(&rt, rt.alloc(), &["check", "1", "1"])?);
+    assert!(rt; refused(&rt, rt.alloc(), &["check", "help"])?);
+    assert!(rt; refused(&rt, rt.alloc(), &["check", "one", "2", "2"])?);
     Ok(())
 }
 
