@@ -7,3 +7,4 @@ pub mod Workers
 pub mod Used
 pub mod Reread
 pub mod Cut
+pub mod Counted

@@ -4,4 +4,3 @@ pub mod Benches
 pub mod Freeing
 pub mod Reports
 pub mod Serves
-pub mod Counted

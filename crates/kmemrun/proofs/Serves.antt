@@ -8,7 +8,7 @@ use Rattle.std.proofs.lemmas.Bool.{le-ltb}
 use Rattle.std.proofs.lemmas.List.{append-nil}
 use Rattle.kmem_text.specs.Grammar.{Plain, script_of, first_bad_of}
 use Rattle.kmem_model.specs.OneRun.{run_start, one_text, one_output}
-use Rattle.kmemrun.specs.declared.fault.Fault.TheVariants.{Limit}
+use Rattle.run_check.specs.declared.fault.Fault.TheVariants.{Limit}
 use Rattle.kmemrun.specs.Answers.{script_answer, one_answer}
 use Rattle.kmemrun.proofs.Benches.{same_some}
 

@@ -1,5 +1,5 @@
 -- What a run of the program writes, or which status it ends with, by its words and its input (this project's own rule).
-use Rattle.std.specs.Prelude.{◌≡◌, ◌++◌, ◌*◌, ◌⊎◌, ℕ, nat_lt, List, [], length, Option, Some, None, Result, Ok, Err, IsOk, IsErrOf, if◌then◌else◌}
+use Rattle.std.specs.Prelude.{◌≡◌, ◌++◌, ◌*◌, ℕ, nat_lt, List, [], length, Option, Some, None, Result, Ok, Err, IsOkAnd, IsErrOf, if◌then◌else◌}
 use Rattle.kmem_text.specs.Grammar.{Plain, script_of, first_bad_of}
 use Rattle.kmem_text.specs.declared.spelling.LineFault.{LineFault}
 use Rattle.kmem_model.specs.Records.{no_records}
@@ -8,11 +8,11 @@ use Rattle.kmem_model.specs.History.{IsLegalHistory, IsShared, IsFullExactly, re
 use Rattle.kmem_model.specs.One.{one_workers}
 use Rattle.kmem_model.specs.OneRun.{reply_lines, one_output}
 use Rattle.kmem_model.specs.declared.plan.Plan.{Plan}
-use Rattle.kmem_model.specs.declared.plan.Plan.TheVariants.{One}
-use Rattle.kmemrun.specs.declared.fault.Fault.{Fault}
-use Rattle.kmemrun.specs.declared.fault.Fault.TheVariants as fault
-use Rattle.kmemrun.specs.declared.status.Ending.{Ending}
-use Rattle.kmemrun.specs.declared.status.Ending.TheVariants as ending
+use Rattle.kmem_model.specs.declared.plan.Plan.TheVariants.{One, Check}
+use Rattle.kmem_model.specs.Checked.{checked_fault}
+use Rattle.run_check.specs.Verdicts.{IsLegal, IsToldHistory, IsDueFault, legal_text}
+use Rattle.run_check.specs.declared.fault.Fault.{Fault}
+use Rattle.run_check.specs.declared.fault.Fault.TheVariants as fault
 
 -- the output for a script; or its first bad line, or that it has too many commands
 abbrev pub script_answer : ℕ → ℕ → Option ℕ → Option (ℕ × LineFault) → Plain → Result (List ℕ) Fault
@@ -48,25 +48,32 @@ IfBadScript fault.Read P = Unit {0}
 IfBadScript fault.Write P = Unit {0}
 IfBadScript fault.Limit P = Unit {0}
 IfBadScript fault.NoMemory P = Unit {0}
+IfBadScript (fault.Illegal line) P = Unit {0}
 
--- the fault is this one, but for want of memory, which is free, and for a read that failed
-abbrev pub IsDue : Result Unit Fault → Fault → Type 0
-IsDue result due = IsErrOf result due ⊎ (IsErrOf result fault.NoMemory ⊎ IsErrOf result fault.Read)
+-- what a plan writes for an input, of which this holds, where it writes a text
+abbrev pub Writes : Option Plan → List ℕ → (List ℕ → Type 0) → Type 0
+Writes None bytes P = ⊥
+Writes (Some (One slabs chunks every)) bytes P = IsOkAnd (one_answer slabs chunks every bytes) P
+Writes (Some (Check workers)) bytes P = IsLegal workers bytes × P legal_text
 
--- there is no fault, but for want of memory and for a read or a write that failed
-abbrev pub IsFineButForStreams : Result Unit Fault → Type 0
-IsFineButForStreams result = IsOk result ⊎ (IsErrOf result fault.Write ⊎ (IsErrOf result fault.NoMemory ⊎ IsErrOf result fault.Read))
+-- the fault is due for the input, in place of a text
+abbrev pub IsFaultOf : Option Plan → List ℕ → Fault → Type 0
+IsFaultOf None bytes f = ⊥
+IsFaultOf (Some (One slabs chunks every)) bytes f = IsErrOf (one_answer slabs chunks every bytes) f
+IsFaultOf (Some (Check workers)) bytes f = IsDueFault workers bytes f
 
--- what a plan writes for an input, or how a run of it ends
-abbrev pub or_ending : Result (List ℕ) Fault → Result (List ℕ) Ending
-or_ending (Ok text) = Ok text
-or_ending (Err f) = Err (ending.Failed f)
-
-abbrev pub plan_answer : Option Plan → List ℕ → Result (List ℕ) Ending
-plan_answer None bytes = Err ending.Usage
-plan_answer (Some (One slabs chunks every)) bytes = or_ending (one_answer slabs chunks every bytes)
-
--- and that text is one of a history
+-- the text is one of a history: it has the history's replies, or says that the input has them
 abbrev pub IsPlanText : Option Plan → List ℕ → List ℕ → Type 0
 IsPlanText None bytes text = ⊥
 IsPlanText (Some (One slabs chunks every)) bytes text = IsTextOfHistory slabs chunks (script_of 16 bytes) text
+IsPlanText (Some (Check workers)) bytes text = IsToldHistory workers bytes
+
+-- the first bad line of the script in the input, with its fault
+abbrev pub bad_line : Option Plan → List ℕ → Option (ℕ × LineFault)
+bad_line None bytes = None
+bad_line (Some (One slabs chunks every)) bytes = first_bad_of 16 bytes
+bad_line (Some (Check workers)) bytes = checked_fault workers bytes
+
+-- the plan is to check a run
+abbrev pub IsCheck : Option Plan → Type 0
+IsCheck plan = (workers : ℕ) × (plan ≡ Some (Check workers))

@@ -7,8 +7,8 @@ use Rattle.kmemrun.specs.declared.status.Status.{Status}
 use Rattle.kmemrun.specs.declared.status.Status.TheVariants as status
 use Rattle.kmemrun.specs.declared.status.Ending.{Ending}
 use Rattle.kmemrun.specs.declared.status.Ending.TheVariants as ending
-use Rattle.kmemrun.specs.declared.fault.Fault.{Fault}
-use Rattle.kmemrun.specs.declared.fault.Fault.TheVariants as fault
+use Rattle.run_check.specs.declared.fault.Fault.{Fault}
+use Rattle.run_check.specs.declared.fault.Fault.TheVariants as fault
 
 -- the number of a status
 abbrev pub status_code : Status → ℕ
@@ -28,6 +28,7 @@ fault_status fault.Read = status.ReadFault
 fault_status fault.Write = status.WriteFault
 fault_status fault.Limit = status.Limit
 fault_status fault.NoMemory = status.NoMemory
+fault_status (fault.Illegal line) = status.Illegal
 
 -- the status of an ending
 abbrev pub ending_status : Ending → Status
@@ -48,6 +49,10 @@ fault_word at.Tag = codes "tag"
 abbrev pub bad_line_text : ℕ → LineFault → List ℕ
 bad_line_text line f = codes "kmemrun: line " ++ (decimal line ++ (codes ": " ++ (fault_word f ++ codes "\n")))
 
+-- the line of a run whose first illegal line this is
+abbrev pub illegal_line_text : ℕ → List ℕ
+illegal_line_text line = codes "kmemrun: illegal line " ++ (decimal line ++ codes "\n")
+
 -- the line of a fault
 abbrev pub fault_line : Fault → List ℕ
 fault_line (fault.BadScript line f) = bad_line_text line f
@@ -55,6 +60,7 @@ fault_line fault.Read = codes "kmemrun: read fault\n"
 fault_line fault.Write = codes "kmemrun: write fault\n"
 fault_line fault.Limit = codes "kmemrun: limit\n"
 fault_line fault.NoMemory = codes "kmemrun: no memory\n"
+fault_line (fault.Illegal line) = illegal_line_text line
 
 -- what an ending tells on standard error
 abbrev pub ending_line : Ending → List ℕ

@@ -1,16 +1,16 @@
 -- What a run of the program does to its streams, and when it ends how (this project's own rule).
-use Rattle.std.specs.Prelude.{◌≡◌, ◌≢◌, ◌<◌, ◌≤◌, ◌↔◌, ◌⊎◌, ℕ, List, Option, Some, IsNone, IfSome, IsOk, IsOkAnd, IsErrOf}
+use Rattle.std.specs.Prelude.{◌≡◌, ◌≢◌, ◌<◌, ◌≤◌, ◌↔◌, ◌⊎◌, ℕ, List, Option, Some, IsNone, IfSome}
 use Rattle.std.specs.Io.KnownBytes.{Appends, Keeps, IsAtEnd}
 use Rattle.kmem_io.specs.Streams.{AppendsFront}
-use Rattle.kmem_text.specs.Grammar.{first_bad_of}
 use Rattle.kmem_text.specs.declared.spelling.LineFault.{LineFault}
 use Rattle.kmem_model.specs.declared.plan.Plan.{Plan}
 use Rattle.kmemrun.specs.declared.status.Status.{Status}
 use Rattle.kmemrun.specs.declared.status.Status.TheVariants as status
 use Rattle.kmemrun.specs.declared.status.Ending.{Ending}
 use Rattle.kmemrun.specs.declared.status.Ending.TheVariants.{Fine, Usage, Failed}
-use Rattle.kmemrun.specs.declared.fault.Fault.TheVariants.{BadScript, Read, Write, Limit, NoMemory}
-use Rattle.kmemrun.specs.Answers.{plan_answer, IsPlanText}
+use Rattle.run_check.specs.declared.fault.Fault.{Fault}
+use Rattle.run_check.specs.declared.fault.Fault.TheVariants.{BadScript, Read, Write, Limit, NoMemory, Illegal}
+use Rattle.kmemrun.specs.Answers.{Writes, IsFaultOf, IsPlanText, bad_line, IsCheck}
 use Rattle.kmemrun.specs.Endings.{ending_status, ending_line}
 
 -- a stream before and after a run: what the input had left, or what was written, where the stream tells it, and how often it had failed
@@ -31,24 +31,27 @@ IsDueEnding ended due = (ended ≡ due) ⊎ ((ended ≡ Failed NoMemory) ⊎ (en
 -- how a plan ends, what it reads and what it writes
 pub record Ends (plan : Option Plan) (input out : Stream) (ended : Ending) : Type 0 where
   -- at Fine exactly the text for the bytes that were left is written, which is one of a history, and all of them are read
-  pub text : ended ≡ Fine → IfSome input.known (λ bytes. IsOkAnd (plan_answer plan bytes) (λ text.
+  pub text : ended ≡ Fine → IfSome input.known (λ bytes. Writes plan bytes (λ text.
       Appends out.known out.known_after text × IsPlanText plan bytes text))
   pub end : ended ≡ Fine → IsAtEnd input.known_after
   -- when each other ending comes
   pub usage : (ended ≡ Usage) ↔ IsNone plan
   pub read_fault : (ended ≡ Failed Read) ↔ (input.faults < input.faults_after)
-  pub limit : ended ≡ Failed Limit → IfSome input.known (λ bytes. IsErrOf (plan_answer plan bytes) (Failed Limit))
+  pub limit : ended ≡ Failed Limit → IfSome input.known (λ bytes. IsFaultOf plan bytes Limit)
   pub bad_script : (line : ℕ) (f : LineFault) → ended ≡ Failed (BadScript line f) →
-      IfSome input.known (λ bytes. IsErrOf (plan_answer plan bytes) (Failed (BadScript line f)))
+      IfSome input.known (λ bytes. IsFaultOf plan bytes (BadScript line f))
   pub first_bad : (line : ℕ) (f : LineFault) → ended ≡ Failed (BadScript line f) →
-      IfSome input.known (λ bytes. first_bad_of 16 bytes ≡ Some (line, f))
+      IfSome input.known (λ bytes. bad_line plan bytes ≡ Some (line, f))
+  pub illegal : (line : ℕ) → ended ≡ Failed (Illegal line) →
+      IsCheck plan × IfSome input.known (λ bytes. IsFaultOf plan bytes (Illegal line))
   pub counted : (line : ℕ) (f : LineFault) → ended ≡ Failed (BadScript line f) → 1 ≤ line
+  pub counted_illegal : (line : ℕ) → ended ≡ Failed (Illegal line) → 1 ≤ line
   pub write_fault : (ended ≡ Failed Write) ↔ (out.faults < out.faults_after)
-  pub due : IfSome input.known (λ bytes. (due : Ending) → IsErrOf (plan_answer plan bytes) due → IsDueEnding ended due)
-  pub fine : IfSome input.known (λ bytes. IsOk (plan_answer plan bytes) → (ended ≡ Failed Write) ⊎ IsDueEnding ended Fine)
+  pub due : IfSome input.known (λ bytes. (due : Fault) → IsFaultOf plan bytes due → IsDueEnding ended (Failed due))
+  pub fine : IfSome input.known (λ bytes. Writes plan bytes (λ text. Unit {0}) → (ended ≡ Failed Write) ⊎ IsDueEnding ended Fine)
   -- what they leave: a front of the text after a write fault, and else nothing
   pub front : ended ≡ Failed Write → IfSome input.known (λ bytes.
-      IsOkAnd (plan_answer plan bytes) (λ text. AppendsFront out.known out.known_after text))
+      Writes plan bytes (λ text. AppendsFront out.known out.known_after text))
   pub untouched : ended ≢ Fine → ended ≢ Failed Write → Keeps out.known out.known_after
 
 -- a front of the ending's line was told; the whole, where standard error did not fail
@@ -60,7 +63,6 @@ pub record Tells (err : Stream) (ended : Ending) : Type 0 where
 pub record IsRun (plan : Option Plan) (input out err : Stream) (answered : Status) : Type 0 where
   pub ended : Ending
   pub answer : answered ≡ ending_status ended
-  pub not_illegal : answered ≢ status.Illegal
   pub ends : Ends plan input out ended
   pub tells : Tells err ended
 

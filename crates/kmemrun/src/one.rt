@@ -10,15 +10,16 @@ ghost use Rattle.kmem_model.specs.History.{IsFullExactly};
 ghost use Rattle.kmem_model.specs.One.{buffers_of};
 ghost use Rattle.kmem_text.specs.Replies.{reply_text, IsReplyWithinNames};
 ghost use Rattle.kmem_model.specs.OneRun.{OneRun, run_start, replies, lines_run, reply_lines, history_of, one_text};
-ghost use Rattle.kmemrun.specs.Answers.{one_answer, IfBadScript, IsDue, IsFineButForStreams, IsTextOfHistory};
+ghost use Rattle.run_check.specs.Verdicts.{IsDue, IsFineButForStreams};
+ghost use Rattle.kmemrun.specs.Answers.{one_answer, IfBadScript, IsTextOfHistory};
 ghost use Rattle.kmemrun.specs.Bench.{Stands, RunsAt, IsGoodLine};
 ghost use Rattle.kmemrun.specs.Pages.{MovesOut};
 
 use crate::bench::Bench;
-use crate::fault::Fault;
 use kmem_io::{Failed, ReadAllError, Sink, Source, read_all, write_all};
 use kmem_model::{law_one, law_one_step};
 use kmem_text::{Reply, Script, ScriptError, read_script, write_reply};
+use run_check::Fault;
 use std::alloc::Global;
 
 /// The most bytes that an input may have: 16 MiB.
@@ -62,6 +63,7 @@ pub fn serve_one<R: Source, W: Sink>(
     ensures first_bad { IfErr result (λ fault. IfBadScript fault (λ line check. IfSome (R.left input.old) (λ bytes.
         first_bad_of 16 bytes ≡ Some (line, check)))) }
     ensures counted { IfErr result (λ fault. IfBadScript fault (λ line check. 1 ≤ line)) }
+    ensures none_illegal { IfErr result (λ fault. (line : ℕ) → fault ≢ Fault.Illegal line) }
     ensures write { IsErrOf result Fault.Write ↔ (W.faults out.old < W.faults out.new) }
     ensures due { IfSome (R.left input.old) (λ bytes. (due : Fault) → IsErrOf (one_answer slabs chunks every bytes) due →
         IsDue result due) }

@@ -6,8 +6,9 @@ ghost use Rattle.std.specs.Process.{exit_status};
 ghost use Rattle.kmem_io.specs.Streams.{CanRise, AppendsFront};
 ghost use Rattle.kmemrun.specs.Endings.{status_code, ending_status, ending_line};
 
-use crate::fault::{Fault, fill};
+use crate::fault::{fault_status, fill, write_fault_line};
 use kmem_io::{Sink, write_all};
+use run_check::Fault;
 use std::alloc::AllocError;
 use std::process::ExitCode;
 
@@ -63,7 +64,7 @@ impl Ending {
         match self {
             Ending::Fine => Status::Fine,
             Ending::Usage => Status::Usage,
-            Ending::Failed(fault) => fault.status(),
+            Ending::Failed(fault) => fault_status(fault),
         }
     }
 
@@ -76,7 +77,7 @@ impl Ending {
         match self {
             Ending::Fine => 0,
             Ending::Usage => fill(room, 0, b"kmemrun: usage\n"),
-            Ending::Failed(fault) => fault.write_line(room),
+            Ending::Failed(fault) => write_fault_line(fault, room),
         }
     }
 
@@ -95,7 +96,7 @@ impl Ending {
 
 impl From<AllocError> for Ending {
     ghost use Rattle.kmemrun.specs.declared.status.Ending.TheVariants.{Failed};
-    ghost use Rattle.kmemrun.specs.declared.fault.Fault.TheVariants.{NoMemory};
+    ghost use Rattle.run_check.specs.declared.fault.Fault.TheVariants.{NoMemory};
 
     ghost from_gives = { λ _ e. e ≡ Failed NoMemory };
 

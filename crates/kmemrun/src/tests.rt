@@ -109,11 +109,24 @@ fn usage(rt: HostRuntime) -> Result<(), Fail> {
     for words in lists {
         assert!(rt; refused(&rt, rt.alloc(), words.as_slice())?, "at {words:?}");
     }
+    assert!(rt; refused(&rt, rt.alloc(), &[])?);
+    assert!(rt; refused(&rt, rt.alloc(), &["help"])?);
+    assert!(rt; refused(&rt, rt.alloc(), &["--help"])?);
+    assert!(rt; refused(&rt, rt.alloc(), &["one"])?);
     assert!(rt; refused(&rt, rt.alloc(), &["one", "2"])?);
+    assert!(rt; refused(&rt, rt.alloc(), &["one", "--", "2", "2"])?);
+    assert!(rt; refused(&rt, rt.alloc(), &["one", "+2", "2"])?);
+    assert!(rt; refused(&rt, rt.alloc(), &["one", "", "2"])?);
     assert!(rt; refused(&rt, rt.alloc(), &["one", "2", "2", "-1"])?);
     assert!(rt; refused(&rt, rt.alloc(), &["one", "2", "2", "100001"])?);
     assert!(rt; refused(&rt, rt.alloc(), &["one", "2", "2", "1", "1"])?);
-    assert!(rt; refused(&rt, rt.alloc(), &[])?);
+    assert!(rt; refused(&rt, rt.alloc(), &["check"])?);
+    assert!(rt; refused(&rt, rt.alloc(), &["check", "0"])?);
+    assert!(rt; refused(&rt, rt.alloc(), &["check", "17"])?);
+    assert!(rt; refused(&rt, rt.alloc(), &["check", "01"])?);
+    assert!(rt; refused(&rt, rt.alloc(), &["check", "1", "1"])?);
+    assert!(rt; refused(&rt, rt.alloc(), &["check", "help"])?);
+    assert!(rt; refused(&rt, rt.alloc(), &["check", "one", "2", "2"])?);
     Ok(())
 }
 
@@ -164,6 +177,48 @@ fn failing_sink_and_source(rt: HostRuntime) -> Result<(), Fail> {
     let ended = top(&rt, alloc, &["one"], &mut source, &mut out, &mut err, &Open);
     assert_eq!(rt; ended.status, Status::Usage);
     assert_eq!(rt; err.bytes(), b"kmem".as_slice());
+    Ok(())
+}
+
+/// A run of two workers as it is printed, checked; then one of its lines another, and then the run alone cut short.
+#[test]
+fn checked_runs(rt: HostRuntime) -> Result<(), Fail> {
+    let legal = b"1 put a x\n2 get a\n=== run\n=== replies\n1 1 new\n2 1 none\n=== history\n2 1\n1 1\n=== report\n".as_slice();
+    let wrong = b"1 put a x\n2 get a\n=== run\n=== replies\n1 1 new\n2 1 none\n=== history\n1 1\n2 1\n=== report\n".as_slice();
+    let short = b"1 put a x\n2 get a\n=== run\n=== replies\n1 1 new\n".as_slice();
+    let cases = [
+        (legal, Status::Fine, b"legal\n".as_slice(), b"".as_slice()),
+        (
+            wrong,
+            Status::Illegal,
+            b"".as_slice(),
+            b"kmemrun: illegal line 9\n".as_slice(),
+        ),
+        (
+            short,
+            Status::Illegal,
+            b"".as_slice(),
+            b"kmemrun: illegal line 6\n".as_slice(),
+        ),
+        (
+            b"1 put a x\n".as_slice(),
+            Status::Illegal,
+            b"".as_slice(),
+            b"kmemrun: illegal line 2\n".as_slice(),
+        ),
+        (
+            b"3 put a x\n".as_slice(),
+            Status::BadScript,
+            b"".as_slice(),
+            b"kmemrun: line 1: worker\n".as_slice(),
+        ),
+    ];
+    for (input, status, text, told) in cases {
+        let ran = run_in_memory(&rt, rt.alloc(), &["check", "2"], input)?;
+        assert_eq!(rt; ran.status, status);
+        assert_eq!(rt; ran.out.bytes(), text);
+        assert_eq!(rt; ran.err.bytes(), told);
+    }
     Ok(())
 }
 

@@ -1,6 +1,6 @@
 //! The top call: words and an input to an output, a line on standard error, and a status.
 
-ghost use Rattle.std.specs.Prelude.{map, IfSome};
+ghost use Rattle.std.specs.Prelude.{◌<◌, ◌≤◌, ◌*◌, map, Some, IfSome};
 ghost use Rattle.kmem_io.specs.Streams.{CanRise};
 ghost use Rattle.kmem_model.specs.Words.{plan_of, IsInRange};
 ghost use Rattle.kmemrun.specs.Runs.{stream, Ends, IsRun};
@@ -10,6 +10,7 @@ use crate::status::{Ended, Ending};
 use crate::words::plan_of;
 use kmem_io::{Gate, Sink, Source};
 use kmem_model::Plan;
+use run_check::check;
 use std::alloc::Global;
 use std::sync::Wait;
 use std::thread::Threads;
@@ -55,11 +56,51 @@ fn carry_out<R: Source, W: Sink>(
     requires ranges { IfSome plan IsInRange }
     ensures { Ends plan (stream R.left R.faults input.old input.new) (stream W.written W.faults out.old out.new) result }
 {
-    let Some(Plan::One(slabs, chunks, every)) = plan else {
-        return Ending::Usage;
-    };
+    match plan {
+        None => Ending::Usage,
+        Some(Plan::One(slabs, chunks, every)) => {
+            carry_out_one(alloc, slabs, chunks, every, input, out)
+        }
+        Some(Plan::Check(workers)) => carry_out_check(alloc, workers, input, out),
+    }
+}
+
+fn carry_out_one<R: Source, W: Sink>(
+    alloc: Global,
+    slabs: u32,
+    chunks: u32,
+    every: Option<u32>,
+    input: &mut R,
+    out: &mut W,
+) -> Ending
+    requires slabs { (0 < slabs) × (slabs ≤ 4096) }
+    requires chunks { (0 < chunks) × (chunks ≤ 64) }
+    requires buffers { slabs * chunks ≤ 65536 }
+    requires input { CanRise (R.faults input.old) }
+    requires out { CanRise (W.faults out.old) }
+    ensures { Ends (Some (Plan.One slabs chunks every))
+        (stream R.left R.faults input.old input.new) (stream W.written W.faults out.old out.new) result }
+{
     match serve_one(alloc, slabs, chunks, every, input, out) {
         Ok(()) => Ending::Fine,
         Err(fault) => Ending::Failed(fault),
     }
+}
+
+fn carry_out_check<R: Source, W: Sink>(
+    alloc: Global,
+    workers: u32,
+    input: &mut R,
+    out: &mut W,
+) -> Ending
+    requires workers { workers ≤ 16 }
+    requires input { CanRise (R.faults input.old) }
+    requires out { CanRise (W.faults out.old) }
+    ensures { Ends (Some (Plan.Check workers))
+        (stream R.left R.faults input.old input.new) (stream W.written W.faults out.old out.new) result }
+{
+    if let Err(fault) = check(alloc, workers, input, out) {
+        return Ending::Failed(fault);
+    }
+    Ending::Fine
 }

@@ -2,7 +2,7 @@
 
 ghost use Rattle.std.specs.Prelude.{◌≡◌, ◌≤◌, map, IfSome};
 ghost use Rattle.kmem_text.specs.Numbers.{number_within};
-ghost use Rattle.kmem_model.specs.Words.{plan_of, one_of, bounded, IsInRange};
+ghost use Rattle.kmem_model.specs.Words.{plan_of, one_of, check_of, bounded, IsInRange};
 
 use kmem_model::Plan;
 use kmem_text::number_within;
@@ -17,8 +17,20 @@ pub fn plan_of(words: &[&str]) -> Option<Plan>
     };
     if *word == "one" {
         one_of(further)
+    } else if *word == "check" {
+        check_of(further)
     } else {
         None
+    }
+}
+
+fn check_of(further: &[&str]) -> Option<Plan>
+    ensures plan { result ≡ check_of (map (λ word. word.now) further.now) }
+    ensures ranges { IfSome result IsInRange }
+{
+    match further {
+        [workers] => Some(Plan::Check(number_within(workers.as_bytes(), 1, 16)?)),
+        _ => None,
     }
 }
 

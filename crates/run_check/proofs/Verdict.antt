@@ -8,8 +8,10 @@ use Rattle.kmem_text.specs.Grammar.{Plain, lines_of, spelled_lines, script_of_li
 use Rattle.kmem_text.specs.Scripts.{IsScript}
 use Rattle.kmem_text.specs.declared.spelling.LineFault.{LineFault}
 use Rattle.kmem_model.specs.Checked.{script_part, run_part, script_len, checked_script, checked_fault, StandUpTo, MayStand, HasNoIllegal, IsFirstRefused, IsFirstIllegal}
+use Rattle.kmem_text.proofs.Counted.{counted_from}
 use Rattle.run_check.specs.Faults.{IfIllegal}
-use Rattle.run_check.specs.Verdicts.{HasScript, IsLegal, IsDueFault, IsDueOrFree, IsDue}
+use Rattle.run_check.specs.Scripts.{IsScriptFault}
+use Rattle.run_check.specs.Verdicts.{HasScript, IsLegal, IsDueFault, IsDueOrFree, IsCounted, IsDue}
 use Rattle.run_check.specs.declared.fault.Fault.{Fault}
 use Rattle.run_check.specs.declared.fault.Fault.TheVariants.{BadScript, Read, Write, Limit, NoMemory, Illegal}
 
@@ -117,3 +119,28 @@ due_is workers bytes read r f due is same h d = elim (due_fault workers bytes f 
   | inl none ↦ inr (inl (is ∙ ap Err none))
   | inr found ↦ inl (is ∙ ap Err (one_due workers bytes f due found d))
 ]
+
+-- A line that is told is counted from 1
+
+pub counted_if_due : (workers : ℕ) (bytes : List ℕ) (f : Fault) → IsDueOrFree workers bytes f → IsCounted f
+counted_if_due workers bytes (BadScript line check) h = counted_from workers 1 (script_part (lines_of bytes)) line check h.1
+counted_if_due workers bytes (Illegal line) h = omega (arith, h.1.1)
+counted_if_due workers bytes Limit h = tt
+counted_if_due workers bytes NoMemory h = tt
+counted_if_due workers bytes Read h = tt
+counted_if_due workers bytes Write h = tt
+
+pub counted_by : {A : Type 0} (workers : ℕ) (bytes : List ℕ) (r : Result A Fault) → IfErr r (λ fault. IsDueOrFree workers bytes fault) → IfErr r IsCounted
+counted_by workers bytes (Ok x) h = tt
+counted_by workers bytes (Err f) h = counted_if_due workers bytes f h
+
+counted_script : (workers : ℕ) (bytes : List ℕ) (f : Fault) → IsScriptFault workers bytes f → IsCounted f
+counted_script workers bytes (BadScript line check) h = counted_from workers 1 (lines_of bytes) line check h
+counted_script workers bytes (Illegal line) h = absurd h
+counted_script workers bytes Limit h = tt
+counted_script workers bytes NoMemory h = tt
+counted_script workers bytes Read h = tt
+counted_script workers bytes Write h = tt
+
+pub counted_bad : {A : Type 0} (workers : ℕ) (bytes : List ℕ) (r : Result A Fault) (f : Fault) → r ≡ Err f → IsScriptFault workers bytes f → IfErr r IsCounted
+counted_bad {A = A} workers bytes r f is h = subst (λ (q : Result A Fault). IfErr q IsCounted) (sym is) (counted_script workers bytes f h)

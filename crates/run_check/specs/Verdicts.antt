@@ -29,6 +29,12 @@ abbrev pub IsDueOrFree : ℕ → List ℕ → Fault → Type 0
 IsDueOrFree workers bytes NoMemory = Unit {0}
 IsDueOrFree workers bytes fault = IsDueFault workers bytes fault
 
+-- a line that is told is counted from 1
+abbrev pub IsCounted : Fault → Type 0
+IsCounted (BadScript line f) = 1 ≤ line
+IsCounted (Illegal line) = 1 ≤ line
+IsCounted _ = Unit {0}
+
 -- what is printed for a run that is legal
 abbrev pub legal_text : List ℕ
 legal_text = codes "legal\n"

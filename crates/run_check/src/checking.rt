@@ -3,7 +3,7 @@
 ghost use Rattle.std.specs.Prelude.{◌≡◌, ◌≢◌, ◌<◌, ◌≤◌, ◌↔◌, length, IfOk, OnOk, IfErr, IfSome, IsErrOf};
 ghost use Rattle.std.specs.Io.KnownBytes.{Appends, Keeps, Consumes, IsAtEnd};
 ghost use Rattle.kmem_io.specs.Streams.{CanRise, AppendsFront};
-ghost use Rattle.run_check.specs.Verdicts.{IsLegal, IsToldHistory, IsDueFault, IsDueOrFree, IsDue, IsFineButForStreams, legal_text};
+ghost use Rattle.run_check.specs.Verdicts.{IsLegal, IsToldHistory, IsDueFault, IsDueOrFree, IsCounted, IsDue, IsFineButForStreams, legal_text};
 ghost use Rattle.run_check.specs.Readings.{IsReadFault};
 
 use crate::fault::Fault;
@@ -34,6 +34,7 @@ pub fn check<R: Source, W: Sink>(
     ensures read { IsErrOf result Fault.Read ↔ (R.faults input.old < R.faults input.new) }
     ensures write { IsErrOf result Fault.Write ↔ (W.faults out.old < W.faults out.new) }
     ensures fault { IfErr result (λ fault. fault ≢ Fault.Read → fault ≢ Fault.Write → IfSome (R.left input.old) (λ bytes. IsDueOrFree workers bytes fault)) }
+    ensures counted { IfErr result IsCounted }
     ensures due { IfSome (R.left input.old) (λ bytes. (due : Fault) → IsDueFault workers bytes due → IsDue result due) }
     ensures fine { IfSome (R.left input.old) (λ bytes. IsLegal workers bytes → IsFineButForStreams result) }
 

@@ -3,7 +3,7 @@
 ghost use Rattle.std.specs.Prelude.{◌≡◌, ◌⊎◌, ◌≤◌, length, None, OnOk, IfOk, IfErr};
 ghost use Rattle.kmem_text.specs.Grammar.{script_of, first_bad_of};
 ghost use Rattle.kmem_text.specs.Scripts.{plain, IsScript};
-ghost use Rattle.run_check.specs.Verdicts.{IsLegal, IsToldHistory, IsDueOrFree};
+ghost use Rattle.run_check.specs.Verdicts.{IsLegal, IsToldHistory, IsDueOrFree, IsCounted};
 ghost use Rattle.run_check.specs.Scripts.{IsScriptFault};
 
 use crate::fault::Fault;
@@ -19,6 +19,7 @@ pub fn judge(alloc: Global, workers: u32, bytes: &[u8]) -> Result<(), Fault>
     ensures legal { OnOk result (IsLegal workers bytes.now) }
     ensures history { OnOk result (IsToldHistory workers bytes.now) }
     ensures due { IfErr result (λ fault. IsDueOrFree workers bytes.now fault) }
+    ensures counted { IfErr result IsCounted }
 {
     let (script, mut lines) = cut_script(bytes);
     let script = script_in(alloc, workers, script)?;

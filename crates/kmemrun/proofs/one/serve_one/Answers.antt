@@ -9,7 +9,7 @@ use Rattle.kmem_model.specs.History.{IsFullExactly}
 use Rattle.kmem_model.specs.One.{one_workers}
 use Rattle.kmem_model.specs.OneRun.{OneRun, run_start, history_of, lines_run, reply_lines, report_after, one_output}
 use Rattle.kmemrun.specs.Answers.{IsTextOfHistory}
-use Rattle.kmemrun.proofs.Counted.{first_bad_counted}
+use Rattle.kmem_text.proofs.Counted.{first_bad_counted}
 use Rattle.kmemrun.proofs.Serves.{if_some, ok_and, not_due, all_read, run_answer}
 use Rattle.kmemrun.proofs.one.serve_one.Given.{Over}
 use Rattle.kmemrun.proofs.one.serve_one.Goals as goal

@@ -12,7 +12,7 @@ this_or : (workers n : ℕ) (found : Result (Option SpelledLine) LineFault) (lin
 this_or workers n (Err e) lines k f later is = let same : n ≡ k = ap number_in is in omega arith
 this_or workers n (Ok found) lines k f later is = let behind : n + 1 ≤ k = later k f is in omega arith
 
-counted_from : (workers n : ℕ) (lines : List (List ℕ)) (k : ℕ) (f : LineFault) → first_bad workers n lines ≡ Some (k, f) → n ≤ k
+pub counted_from : (workers n : ℕ) (lines : List (List ℕ)) (k : ℕ) (f : LineFault) → first_bad workers n lines ≡ Some (k, f) → n ≤ k
 counted_from workers n [] k f is = absurd (cc)
 counted_from workers n (line ∷ lines) k f is = this_or workers n (spelled_of workers (tokens_of line)) lines k f (counted_from workers (n + 1) lines) is
 
