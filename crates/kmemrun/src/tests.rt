@@ -183,8 +183,10 @@ fn failing_sink_and_source(rt: HostRuntime) -> Result<(), Fail> {
 /// A run of two workers as it is printed, checked; then one of its lines another, and then the run alone cut short.
 #[test]
 fn checked_runs(rt: HostRuntime) -> Result<(), Fail> {
-    let legal = b"1 put a x\n2 get a\n=== run\n=== replies\n1 1 new\n2 1 none\n=== history\n2 1\n1 1\n=== report\n".as_slice();
-    let wrong = b"1 put a x\n2 get a\n=== run\n=== replies\n1 1 new\n2 1 none\n=== history\n1 1\n2 1\n=== report\n".as_slice();
+    let legal =
+        b"1 put a x\n2 get a\n=== run\n=== replies\n1 1 new\n2 1 none\n=== history\n2 1\n1 1\n=== report\n".as_slice();
+    let wrong =
+        b"1 put a x\n2 get a\n=== run\n=== replies\n1 1 new\n2 1 none\n=== history\n1 1\n2 1\n=== report\n".as_slice();
     let short = b"1 put a x\n2 get a\n=== run\n=== replies\n1 1 new\n".as_slice();
     let cases = [
         (legal, Status::Fine, b"legal\n".as_slice(), b"".as_slice()),
