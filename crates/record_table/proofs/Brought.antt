@@ -1,5 +1,5 @@
 -- What a put over the cache comes to.
-use Rattle.std.proofs.Common.{◌≡◌, ℕ, ◌+◌, ◌≤◌, ◌&&◌, ◌⊎◌, Bool, true, false, cond, List, [], ◌∷◌, ◌++◌, length, Option, Some, None, is_some, Result, Ok, Err, ⊎_elim, sym, ap, ◌∙◌, refl, subst, arith, add-zero}
+use Rattle.std.proofs.Common.{◌≡◌, ℕ, ◌+◌, ◌&&◌, Bool, true, false, cond, List, [], ◌∷◌, ◌++◌, length, Option, Some, None, is_some, Result, Ok, Err, ⊎_elim, sym, ap, ◌∙◌, refl, subst, arith, add-zero}
 use Rattle.std.specs.Option.{IfSome}
 use Rattle.std.proofs.lemmas.Bool.{both_ways}
 use Rattle.std.proofs.lemmas.List.{append-nil, length-append}
@@ -11,7 +11,7 @@ use Rattle.kmem_text.specs.declared.command.Reply.{Reply}
 use Rattle.kmem_text.specs.declared.command.Reply.TheVariants as said
 use Rattle.kmem_buf.specs.Buffers.{BufState}
 use Rattle.kmem_buf.specs.declared.home.FullNote.{FullNote}
-use Rattle.kmem_model.specs.Heap.{Object, blank}
+use Rattle.kmem_model.specs.Heap.{Object}
 use Rattle.kmem_model.specs.Records.{no_records}
 use Rattle.kmem_model.specs.History.{IsLegalHistory}
 use Rattle.kmem_model.specs.declared.record_entry.RecordEntry.{RecordEntry}
@@ -20,18 +20,18 @@ use Rattle.kmem_model.specs.declared.cache_entry.CacheEntry.TheVariants.{Full}
 use Rattle.hist_lock.specs.History.{entries_of, listed, told}
 use Rattle.hist_lock.specs.Passes.{PassState, Site}
 use Rattle.record_heap.specs.View.{IsBlankBuffer}
-use Rattle.record_heap.specs.Puts.{offered, IsReadyOffer}
+use Rattle.record_heap.specs.Puts.{offered}
 use Rattle.record_heap.specs.declared.heap.put.Offer.{Offer}
 use Rattle.record_heap.specs.declared.heap.put.Offer.TheVariants.{Nothing, Fresh, Refused}
 use Rattle.record_heap.specs.declared.heap.put.PutEnd.{PutEnd}
-use Rattle.record_heap.specs.declared.heap.put.PutEnd.TheVariants.{Replied, Wanting}
+use Rattle.record_heap.specs.declared.heap.put.PutEnd.TheVariants.{Replied}
 use Rattle.kmem_cache.specs.declared.locked.CacheRefused.{CacheRefused}
 use Rattle.kmem_cache.specs.declared.locked.CacheRefused.TheVariants as none
 use Rattle.kmem_cache.specs.Seats.{CacheSite, CacheSeatState, HasActed}
 use Rattle.kmem_cache.specs.Calls.{HasAllocated}
 use Rattle.record_table.specs.Shares.{ShareState, counted_on}
 use Rattle.record_table.specs.Tables.{TableHome}
-use Rattle.record_table.specs.Turns.{entry_of, put_back, is_new_end, is_refused_offer, brought_by_put, IsBackOf}
+use Rattle.record_table.specs.Turns.{entry_of, put_back, is_new_end, is_refused_offer, brought_by_put}
 use Rattle.record_table.specs.Sessions.{HasAdded, HasLooked, HasPutSo, HasPut, FoundNoRoom}
 use Rattle.record_table.specs.Runs.{asks_slabs, IsFullOf, HasBrought}
 use Rattle.record_table.proofs.Sessions.{front_on}

@@ -1,9 +1,9 @@
 -- What a deletion does to how many objects and records there are.
-use Rattle.std.proofs.Common.{◌≡◌, ℕ, ◌+◌, ◌≤◌, true, List, Option, Some, is_some}
+use Rattle.std.proofs.Common.{◌≡◌, ℕ, ◌+◌, ◌≤◌, List}
 use Rattle.kmem_buf.specs.Buffers.{BufState}
 use Rattle.kmem_model.specs.Records.{RecordMap, id_of, live_count}
 use Rattle.kmem_model.specs.RecordStep.{del_step}
-use Rattle.kmem_model.specs.Heap.{Object, StandsFor, object_at}
+use Rattle.kmem_model.specs.Heap.{Object, StandsFor}
 use Rattle.record_heap.specs.View.{HeapView, IsHandedOut, IsKeptOn}
 use Rattle.record_table.specs.Tables.{object_count}
 use Rattle.record_table.proofs.Lefts.{one_less}

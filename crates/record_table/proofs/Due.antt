@@ -1,5 +1,5 @@
 -- Which answers can come after a history.
-use Rattle.std.proofs.Common.{◌≡◌, ◌≢◌, ◌⊎◌, ℕ, ◌+◌, ◌<◌, ◌≤◌, ◌||◌, nat_lt, Bool, true, false, cond, List, [], ◌∷◌, ◌++◌, length, get_or, map, Option, Some, None, is_some, is_none, option_map, option_and_then, count_by, inl, inr, ⊎_elim, sym, ap, ◌∙◌, refl, subst, arith}
+use Rattle.std.proofs.Common.{◌≡◌, ◌≢◌, ℕ, ◌+◌, ◌<◌, ◌≤◌, nat_lt, Bool, true, false, cond, List, length, get_or, map, Option, Some, None, is_some, is_none, option_map, option_and_then, ⊎_elim, sym, ap, ◌∙◌, refl, subst, arith}
 use Rattle.std.specs.Option.{option_map_or}
 use Rattle.std.specs.List.{list_any}
 use Rattle.std.proofs.lemmas.Bool.{both_ways, cases_eq, cases_lt, ltb-true}
@@ -7,10 +7,8 @@ use Rattle.kmem_buf.specs.Answers.{Flags, flagged}
 use Rattle.kmem_buf.specs.declared.client.Verdict.{Verdict}
 use Rattle.kmem_buf.specs.declared.client.Verdict.TheVariants as verdict
 use Rattle.kmem_answers.specs.Words.{said_of}
-use Rattle.kmem_model.specs.declared.cache_entry.Said.{Said}
 use Rattle.kmem_model.specs.declared.cache_entry.Said.TheVariants.{Yes, No, Later, DontNeed, DontKnow}
-use Rattle.kmem_model.specs.CacheOrder.{is_the}
-use Rattle.kmem_model.specs.Records.{Record, RecordMap, no_records, id_of, held_at, record_at, is_live}
+use Rattle.kmem_model.specs.Records.{Record, RecordMap, no_records, is_live}
 use Rattle.kmem_model.specs.Heap.{Object, HeapState, StandsFor, object_at, record_of, is_leftover, address_in, IsTiedObject}
 use Rattle.kmem_model.specs.Says.{answer_about, says}
 use Rattle.kmem_model.specs.History.{map_after, has_held, has_fixed}
@@ -20,7 +18,7 @@ use Rattle.kmem_model.proofs.CacheLists.{get_or-map_default}
 use Rattle.kmem_model.proofs.Heaps.{leads_somewhere}
 use Rattle.kmem_model.proofs.HistoryTags.{held_from, fixed_from, none_held, none_fixed}
 use Rattle.hist_lock.specs.History.{IsFront}
-use Rattle.record_table.specs.Ended.{drops, has_dropped, has_ended}
+use Rattle.record_table.specs.Ended.{drops, has_ended}
 use Rattle.record_table.specs.Tables.{TableHome, TableView, home_of, IsStandingFor}
 use Rattle.record_table.specs.Asks.{IsDueAfter, AreFlagsDue}
 use Rattle.record_table.proofs.Lefts.{left_there}

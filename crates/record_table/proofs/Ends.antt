@@ -1,17 +1,16 @@
 -- How the sessions and movers of a table begin and end, as lists.
-use Rattle.std.proofs.Common.{◌≡◌, ℕ, zero, suc, ◌+◌, ◌-◌, ◌<◌, ◌≤◌, List, [], ◌∷◌, ◌++◌, length, get_or, slice_get, map, reverse, replicate, All, Option, Some, refl, sym, ap, ap₂, ◌∙◌, subst, arith, append_assoc}
-use Rattle.std.specs.List.{sum_by, range_with_len}
-use Rattle.std.specs.Option.{IfSome}
+use Rattle.std.proofs.Common.{◌≡◌, ℕ, ◌+◌, ◌-◌, ◌≤◌, List, [], ◌∷◌, ◌++◌, length, get_or, slice_get, map, reverse, replicate, All, Some, refl, sym, ap, ap₂, ◌∙◌, subst, arith, append_assoc}
+use Rattle.std.specs.List.{sum_by}
 use Rattle.std.proofs.lemmas.List.{reverse-reverse, length-append, map-append, length-replicate}
 use Rattle.std.proofs.Math.Seq.{get_or-append_right}
 use Rattle.std.proofs.lemmas.Option.{slice_get-get_or}
 use Rattle.std.proofs.lemmas.List.Sums.{sum_by-append}
-use Rattle.std.proofs.lemmas.List.Elements.{All-nil, All-cons, All-head, All-tail, All-same, All-append, All-map}
+use Rattle.std.proofs.lemmas.List.Elements.{All-nil, All-cons, All-head, All-tail, All-append, All-map}
 use Rattle.atomic_table.specs.Seated.{TableId}
 use Rattle.kmem_model.specs.declared.record_entry.RecordEntry.{RecordEntry}
 use Rattle.hist_lock.specs.Passes.{Site, PassState, fresh, fresh_passes}
 use Rattle.kmem_cache.proofs.Partings.{reverse-cons, map-more, all_reverse, all_back, all_unmap, sum-reverse, sum-map}
-use Rattle.record_table.specs.Shares.{ShareState, fresh_share, fresh_shares}
+use Rattle.record_table.specs.Shares.{fresh_share, fresh_shares}
 use Rattle.record_table.specs.Tables.{TableHome}
 use Rattle.record_table.specs.Openings.{IsFreshPass, IsFreshShare}
 

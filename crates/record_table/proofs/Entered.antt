@@ -1,5 +1,5 @@
 -- What an entry does to what the object stands for.
-use Rattle.std.proofs.Common.{◌≡◌, ◌⊎◌, ℕ, ◌+◌, ◌<◌, ◌≤◌, ◌&&◌, true, List, [], ◌∷◌, ◌++◌, inl, inr, ⊎_elim, sym, ap, ◌∙◌, refl, subst, arith}
+use Rattle.std.proofs.Common.{◌≡◌, ◌⊎◌, ℕ, ◌+◌, ◌<◌, ◌≤◌, true, List, [], ◌∷◌, ◌++◌, inl, inr, ⊎_elim, sym, ap, ◌∙◌, refl, subst, arith}
 use Rattle.std.proofs.lemmas.Bool.{cond-false, cases_lt}
 use Rattle.std.proofs.lemmas.List.Elements.{All-push}
 use Rattle.kmem_text.specs.declared.command.Command.{Command}
@@ -7,14 +7,14 @@ use Rattle.kmem_text.specs.declared.command.Reply.{Reply}
 use Rattle.kmem_text.specs.Grammar.{IsWithinNames, IsWithinTags}
 use Rattle.kmem_model.specs.Records.{RecordMap, no_records, live_count}
 use Rattle.kmem_model.specs.RecordStep.{step, only_looks}
-use Rattle.kmem_model.specs.Heap.{StandsFor, places_of, leftover_count}
+use Rattle.kmem_model.specs.Heap.{StandsFor, places_of}
 use Rattle.kmem_model.specs.History.{worker_of, is_refusal, map_next, map_after, IsRight, IsEntryWithin}
 use Rattle.kmem_model.specs.declared.record_entry.RecordEntry.{RecordEntry}
 use Rattle.kmem_model.proofs.Legal.{map_after-append, legal-append, step_no_refusal}
 use Rattle.kmem_model.proofs.StepTags.{looks_leave}
 use Rattle.marks.specs.Words.{MarkPenState}
 use Rattle.record_heap.specs.View.{HeapView, IsReplyBy, IsStepBy}
-use Rattle.record_table.specs.Ended.{drops, ends_record}
+use Rattle.record_table.specs.Ended.{drops}
 use Rattle.record_table.specs.Shares.{SharesState}
 use Rattle.record_table.specs.Tables.{TableView, IsStandingFor, IsCounted, object_count}
 use Rattle.record_table.specs.Turns.{entry_of, HasEntered}

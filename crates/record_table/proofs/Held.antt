@@ -1,10 +1,10 @@
 -- What a tag keeps at its address.
-use Rattle.std.proofs.Common.{◌≡◌, ◌≢◌, ℕ, ◌<◌, nat_lt, Bool, true, false, cond, List, length, get_or, set, map, Option, Some, None, is_some, is_none, option_map, ⊎_elim, sym, ap, ◌∙◌, refl, subst, arith}
+use Rattle.std.proofs.Common.{◌≡◌, ◌≢◌, ℕ, ◌<◌, nat_lt, Bool, true, false, cond, List, length, get_or, set, map, Option, Some, None, is_some, is_none, option_map, ⊎_elim, sym, ap, ◌∙◌, refl, subst}
 use Rattle.std.proofs.lemmas.Bool.{both_ways, cases_lt, lt-ltb}
 use Rattle.std.proofs.lemmas.List.{get_or-set_same, get_or_past, set_past}
 use Rattle.kmem_text.specs.declared.command.Command.TheVariants.{Del}
 use Rattle.kmem_buf.specs.Buffers.{BufState}
-use Rattle.kmem_model.specs.declared.cache_entry.Said.TheVariants.{Yes, No, Later, DontNeed, DontKnow}
+use Rattle.kmem_model.specs.declared.cache_entry.Said.TheVariants.{Yes, No, Later, DontNeed}
 use Rattle.kmem_model.specs.Records.{RecordMap, id_of}
 use Rattle.kmem_model.specs.RecordStep.{del_step}
 use Rattle.kmem_model.specs.Heap.{Object, HeapState, StandsFor, object_at, hold_at, has_record, is_leftover, least_left_in, address_in, places_of}

@@ -1,10 +1,10 @@
 -- How many objects a heap has, and how many of them are leftovers.
-use Rattle.std.proofs.Common.{◌≡◌, ℕ, ◌+◌, ◌<◌, ◌≤◌, Bool, true, false, cond, List, [], ◌∷◌, length, get_or, set, Option, None, Some, is_some, is_none, option_map, count_by, map, sym, ap, ◌∙◌, refl, subst, arith}
+use Rattle.std.proofs.Common.{◌≡◌, ℕ, ◌+◌, ◌<◌, true, false, cond, List, [], ◌∷◌, length, get_or, set, Option, None, Some, is_some, is_none, count_by, sym, ap, ◌∙◌, refl, subst, arith}
 use Rattle.std.proofs.lemmas.Bool.{both_ways}
 use Rattle.std.proofs.lemmas.List.{length-map, get_or-set_other, length-set}
 use Rattle.kmem_model.proofs.CacheLists.{count-cons, count-map, count-set_more, count-set_less, counted, get_or-map_default}
 use Rattle.kmem_model.specs.Records.{RecordMap, live_count}
-use Rattle.kmem_model.specs.Heap.{Object, HeapState, StandsFor, object_at, has_record, is_leftover, kept_count, leftover_count, places_of}
+use Rattle.kmem_model.specs.Heap.{Object, HeapState, StandsFor, object_at, has_record, is_leftover, leftover_count, places_of}
 use Rattle.kmem_model.proofs.RecordsValid.{read_within}
 use Rattle.record_table.specs.Tables.{object_count}
 

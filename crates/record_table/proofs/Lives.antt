@@ -1,5 +1,5 @@
 -- How many records live after a step, and after a history that ended some.
-use Rattle.std.proofs.Common.{◌≡◌, ℕ, ◌+◌, ◌<◌, ◌≤◌, ◌==◌, ◌&&◌, ◌||◌, nat_lt, Bool, true, false, cond, List, [], ◌∷◌, ◌++◌, length, get_or, set, Option, None, Some, is_some, option_map, count_by, inl, inr, ◌⊎◌, ⊎_elim, sym, ap, ap₂, ◌∙◌, refl, subst, arith}
+use Rattle.std.proofs.Common.{◌≡◌, ℕ, ◌+◌, ◌<◌, ◌≤◌, ◌==◌, ◌&&◌, ◌||◌, nat_lt, Bool, true, false, cond, List, [], ◌∷◌, ◌++◌, length, get_or, set, Option, None, Some, is_some, option_map, count_by, ⊎_elim, sym, ap, ap₂, ◌∙◌, refl, arith}
 use Rattle.std.specs.List.{list_any}
 use Rattle.std.proofs.lemmas.Bool.{cases_lt, cond_both, both_ways, lt-ltb}
 use Rattle.std.proofs.lemmas.List.{get_or-set_same, get_or_past, set_past}
@@ -7,10 +7,9 @@ use Rattle.std.proofs.lemmas.List.Sums.{sum_by_push}
 use Rattle.std.proofs.lemmas.List.Folds.{list_any-append}
 use Rattle.kmem_text.specs.declared.command.NameId.{NameId}
 use Rattle.kmem_text.specs.declared.command.Tag.{Tag}
-use Rattle.kmem_text.specs.declared.command.Command.{Command}
-use Rattle.kmem_text.specs.declared.command.Command.TheVariants.{Put, Link, Hold, Write, Drop, Fix, Loose}
-use Rattle.kmem_model.specs.Records.{Record, RecordMap, tag_place, id_of, held_at, record_at, is_live, name_count, is_used, live_count, with_name, with_tag, changed_at, without_unused}
-use Rattle.kmem_model.specs.RecordStep.{Step, put_step, del_step, link_step, hold_step, write_step, drop_step, fix_step, step}
+use Rattle.kmem_text.specs.declared.command.Command.TheVariants.{Link, Hold, Write, Fix, Loose}
+use Rattle.kmem_model.specs.Records.{Record, RecordMap, tag_place, id_of, held_at, record_at, is_live, name_count, is_used, live_count, with_name, changed_at, without_unused}
+use Rattle.kmem_model.specs.RecordStep.{Step, put_step, del_step, link_step, hold_step, write_step, fix_step, step}
 use Rattle.kmem_model.specs.History.{map_next, map_after}
 use Rattle.kmem_model.specs.declared.record_entry.RecordEntry.{RecordEntry}
 use Rattle.kmem_model.proofs.CacheLists.{count-set, count-set_same}

@@ -1,5 +1,5 @@
 -- What a put does to what the object stands for.
-use Rattle.std.proofs.Common.{◌≡◌, ◌⊎◌, ℕ, ◌+◌, ◌<◌, true, false, List, [], ◌∷◌, ◌++◌, Option, None, Some, length, slice_get, arith, inl, inr, get_or, set, sym, ap, ap₂, ◌∙◌, refl, subst}
+use Rattle.std.proofs.Common.{◌≡◌, ◌⊎◌, ℕ, ◌+◌, ◌<◌, true, false, List, [], ◌∷◌, ◌++◌, Option, None, Some, length, arith, inl, inr, get_or, set, sym, ap, ap₂, ◌∙◌, refl, subst}
 use Rattle.std.specs.Option.{is_none, option_map}
 use Rattle.kmem_model.proofs.CacheLists.{get_or-map_default}
 use Rattle.kmem_text.specs.declared.command.Command.TheVariants.{Put}

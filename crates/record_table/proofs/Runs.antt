@@ -1,10 +1,10 @@
 -- What a session's command comes to.
-use Rattle.std.proofs.Common.{◌≡◌, ℕ, ◌+◌, ◌<◌, ◌≤◌, ◌^◌, ◌||◌, ◌⊎◌, Bool, true, false, cond, List, [], ◌∷◌, ◌++◌, length, get_or, set, slice_get, Option, Some, None, is_some, inl, inr, ⊎_elim, sym, ap, ◌∙◌, refl, subst, subst₂, arith}
+use Rattle.std.proofs.Common.{◌≡◌, ℕ, ◌+◌, ◌<◌, ◌≤◌, ◌||◌, Bool, true, false, cond, List, [], ◌∷◌, ◌++◌, length, get_or, set, slice_get, Option, Some, None, is_some, ⊎_elim, sym, ap, ◌∙◌, refl, subst, subst₂, arith}
 use Rattle.std.specs.Option.{IfSome}
 use Rattle.std.proofs.lemmas.Bool.{both_ways}
 use Rattle.std.proofs.lemmas.List.{append-nil, append_assoc, set-set, set-get_or}
 use Rattle.kmem_text.specs.declared.command.Command.{Command}
-use Rattle.kmem_text.specs.declared.command.Command.TheVariants.{Put, Del, Get, First, Next, Count, Link, Hold, Drop, Fix, Loose}
+use Rattle.kmem_text.specs.declared.command.Command.TheVariants.{Put, Get, First, Next, Count, Link, Hold, Drop, Fix, Loose}
 use Rattle.kmem_text.specs.declared.command.Reply.{Reply}
 use Rattle.kmem_text.specs.declared.command.Reply.TheVariants as said
 use Rattle.kmem_model.specs.Records.{RecordMap, no_records}
@@ -12,9 +12,8 @@ use Rattle.kmem_model.specs.RecordStep.{step, leaves_tags}
 use Rattle.kmem_model.specs.History.{worker_of, is_done, is_refusal, is_put_of_absent, map_after, IsRight, IsLegalHistory}
 use Rattle.kmem_model.specs.declared.record_entry.RecordEntry.{RecordEntry}
 use Rattle.kmem_model.specs.declared.cache_entry.CacheEntry.{CacheEntry}
-use Rattle.kmem_model.specs.declared.cache_entry.CacheEntry.TheVariants.{Free}
 use Rattle.kmem_model.proofs.Legal.{legal-append, step_no_refusal}
-use Rattle.hist_lock.specs.History.{IsFront, entries_of, listed, told}
+use Rattle.hist_lock.specs.History.{IsFront, listed, told}
 use Rattle.hist_lock.specs.Passes.{PassState, Site}
 use Rattle.kmem_cache.specs.declared.locked.CacheHome.{CacheHome}
 use Rattle.kmem_cache.specs.Calls.{HasFreed}
@@ -27,7 +26,7 @@ use Rattle.kmem_model.specs.Heap.{Object}
 use Rattle.record_table.specs.Turns.{entry_of, is_plain, fetched_by_del}
 use Rattle.record_table.specs.Holds.{tag_in, IsHeldBy}
 use Rattle.kmem_text.specs.declared.command.NameId.{NameId}
-use Rattle.record_table.specs.Sessions.{SessionState, IsSession, HasHolds, HasAdded, HasLooked, WasMet, kept_at}
+use Rattle.record_table.specs.Sessions.{SessionState, IsSession, HasHolds, HasAdded, WasMet, kept_at}
 use Rattle.record_table.specs.Runs.{is_put, is_del, asks_slabs, frees_slab, HasUsed, GrowsByOne, HasBalanced, HasCarriedOut, HasCarriedOutAlone, IsFullOf}
 use Rattle.record_table.proofs.Holding.{same_quiet, same_undone, held_or_not, let_go}
 

@@ -11,7 +11,7 @@ use Rattle.kmem_buf.specs.Buffers.{BufState}
 use Rattle.kmem_model.specs.Records.{no_records, tag_place}
 use Rattle.kmem_model.specs.Heap.{Object, least_left_in}
 use Rattle.kmem_model.specs.RecordStep.{step}
-use Rattle.kmem_model.specs.History.{worker_of, is_refusal, is_put_of_absent, map_after, IsRight, IsLegalHistory}
+use Rattle.kmem_model.specs.History.{worker_of, is_refusal, map_after, IsRight, IsLegalHistory}
 use Rattle.kmem_model.proofs.Legal.{legal-append, step_no_refusal}
 use Rattle.kmem_model.specs.declared.record_entry.RecordEntry.{RecordEntry}
 use Rattle.hist_lock.specs.Passes.{PassState, Site, IsTurn}

@@ -1,13 +1,13 @@
 -- What the stubs of a table's shares say together.
-use Rattle.std.proofs.Common.{◌≡◌, ℕ, ◌+◌, ◌<◌, Bool, true, false, cond, List, [], ◌∷◌, ◌++◌, length, get_or, set, sym, ap, ◌∙◌, refl, subst, arith}
+use Rattle.std.proofs.Common.{◌≡◌, ℕ, ◌+◌, ◌<◌, Bool, true, false, cond, List, [], ◌∷◌, ◌++◌, length, get_or, set, sym, ap, ◌∙◌, refl, arith}
 use Rattle.std.specs.List.{sum_by}
 use Rattle.std.proofs.Math.Seq.{map-set_same}
-use Rattle.std.proofs.lemmas.List.{length-map, map-append}
+use Rattle.std.proofs.lemmas.List.{map-append}
 use Rattle.std.proofs.lemmas.List.Sums.{sum_by-set, sum_by-cons, sum_by_push}
 use Rattle.atomic_table.specs.Seated.{TableId}
 use Rattle.kmem_buf.specs.Homes.{stub_homes}
 use Rattle.kmem_buf.specs.Stubs.{StubState}
-use Rattle.record_table.specs.Shares.{SharesState, ShareState, share_facts, out_of, brought_of, fetched_of, shares_of, fresh_share, fresh_shares}
+use Rattle.record_table.specs.Shares.{SharesState, share_facts, out_of, brought_of, fetched_of, shares_of, fresh_share, fresh_shares}
 
 pub same_shares : (a b : SharesState) → a.homes ≡ b.homes → a.out ≡ b.out → a.brought ≡ b.brought → a.fetched ≡ b.fetched → a ≡ b
 same_shares a b homes out brought fetched = λ i. record { homes = homes i; out = out i; brought = brought i; fetched = fetched i }

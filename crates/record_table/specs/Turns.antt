@@ -15,7 +15,7 @@ use Rattle.record_heap.specs.declared.heap.put.Offer.{Offer}
 use Rattle.record_heap.specs.declared.heap.put.Offer.TheVariants.{Nothing, Refused}
 use Rattle.record_heap.specs.declared.heap.put.PutEnd.{PutEnd}
 use Rattle.record_heap.specs.declared.heap.put.PutEnd.TheVariants.{Replied, Wanting}
-use Rattle.record_table.specs.Shares.{ShareState, IsShareAt, counted_on}
+use Rattle.record_table.specs.Shares.{ShareState, IsShareAt}
 use Rattle.record_table.specs.Tables.{TableHome, TableView, IsStandingFor}
 
 -- these are the words of the table's buffers

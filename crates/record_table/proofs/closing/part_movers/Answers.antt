@@ -1,4 +1,4 @@
-use Rattle.std.proofs.Common.{◌≡◌, ◌+◌, ◌∷◌, ◌++◌, [], map, reverse, Option, Some, unwrap_or, All, ap, sym, ◌∙◌, subst, arith, append_assoc}
+use Rattle.std.proofs.Common.{◌≡◌, ◌∷◌, ◌++◌, [], map, reverse, Option, unwrap_or, ap, sym, ◌∙◌, subst, arith, append_assoc}
 use Rattle.std.specs.Option.{IfSome}
 use Rattle.std.proofs.lemmas.List.Elements.{All-pop, All-push, All-same, All-cons}
 use Rattle.hist_lock.specs.Passes.{Site, PassState}

@@ -1,4 +1,4 @@
-use Rattle.std.proofs.Common.{◌≡◌, ◌+◌, ◌++◌, List, length, All, vec_len}
+use Rattle.std.proofs.Common.{◌≡◌, ◌+◌, ◌++◌, List, All, vec_len}
 use Rattle.std.specs.List.{sum_by}
 use Rattle.record_table.specs.Shares.{ShareState, IsShareAt}
 use Rattle.record_table.proofs.closing.take_back_all.Given as goal

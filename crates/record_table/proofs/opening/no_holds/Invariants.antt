@@ -1,4 +1,4 @@
-use Rattle.std.proofs.Common.{◌≡◌, ◌+◌, ◌≤◌, replicate, None, vec_len, vec_capacity}
+use Rattle.std.proofs.Common.{◌≡◌, ◌≤◌, replicate, None, vec_capacity}
 use Rattle.record_table.proofs.opening.no_holds.Given as goal
 
 abbrev pub invariant-loop-tag : goal.invariant-loop-tag

@@ -1,4 +1,4 @@
-use Rattle.std.proofs.Common.{ℕ, ◌≡◌, ◌*◌, Bool, false, refl, [], cond, Option, None, is_some, count_by, replicate, arith, sym, ap, ◌∙◌}
+use Rattle.std.proofs.Common.{ℕ, ◌≡◌, ◌*◌, false, refl, [], cond, Option, None, is_some, count_by, replicate, arith, sym, ap, ◌∙◌}
 use Rattle.std.proofs.lemmas.List.Elements.{All-nil}
 use Rattle.kmem_model.specs.Heap.{Object, HeapState, places_of}
 use Rattle.kmem_model.specs.History.{IsEntryWithin}

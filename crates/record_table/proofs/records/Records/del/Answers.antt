@@ -1,15 +1,14 @@
-use Rattle.std.proofs.Common.{ℕ, ◌≡◌, ◌+◌, ◌<◌, ◌≤◌, List, Option, Some, true, false, is_some, inl, set, arith, sym, ap, ◌∙◌, subst, add-zero}
+use Rattle.std.proofs.Common.{◌≡◌, ◌<◌, Option, false, inl, set, arith, sym, ap, ◌∙◌, subst, add-zero}
 use Rattle.std.specs.Option.{IfSome, IfNone}
 use Rattle.kmem_text.specs.declared.command.Command.TheVariants.{Del}
 use Rattle.kmem_buf.specs.Buffers.{BufState}
 use Rattle.kmem_model.specs.History.{map_after}
-use Rattle.kmem_model.specs.Records.{RecordMap, no_records, id_of, is_live, live_count}
-use Rattle.kmem_model.specs.RecordStep.{del_step}
-use Rattle.kmem_model.specs.Heap.{Object, StandsFor, object_at}
+use Rattle.kmem_model.specs.Records.{no_records, id_of}
+use Rattle.kmem_model.specs.Heap.{Object, StandsFor}
 use Rattle.marks.specs.Words.{MarkPenState}
 use Rattle.record_heap.specs.View.{IsHandedOut, IsKeptOn}
 use Rattle.record_table.specs.Shares.{SharesState}
-use Rattle.record_table.specs.Tables.{TableView, IsCounted, object_count}
+use Rattle.record_table.specs.Tables.{TableView}
 use Rattle.record_table.specs.Turns.{entry_of, HasEntered}
 use Rattle.record_table.proofs.Entered.{stepped, stepped_to}
 use Rattle.record_table.proofs.Deletes.{ended_count, kept_lives}

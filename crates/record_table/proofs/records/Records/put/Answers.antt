@@ -1,10 +1,6 @@
-use Rattle.std.proofs.Common.{◌≡◌, ◌+◌, ◌<◌, length, true, inl, inr, sym, ap, ◌∙◌, refl, subst, subst₂, add-zero}
-use Rattle.atomic_table.specs.Seated.{TableId}
-use Rattle.kmem_buf.specs.Buffers.{BufState}
-use Rattle.kmem_model.specs.Heap.{Object}
+use Rattle.std.proofs.Common.{◌<◌, inl, inr, sym, ap, ◌∙◌, refl, subst, subst₂, add-zero}
 use Rattle.marks.specs.Words.{MarkPenState}
 use Rattle.record_heap.specs.Puts.{IsReadyOffer}
-use Rattle.record_heap.specs.declared.heap.put.Offer.TheVariants.{Fresh}
 use Rattle.record_table.specs.Shares.{SharesState}
 use Rattle.record_table.specs.Tables.{TableView}
 use Rattle.record_table.specs.Turns.{IsPutTurn}

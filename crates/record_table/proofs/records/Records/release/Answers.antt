@@ -1,10 +1,10 @@
-use Rattle.std.proofs.Common.{◌≡◌, ◌<◌, ℕ, List, Option, Some, None, inr, sym, refl, ap, ◌∙◌, subst}
+use Rattle.std.proofs.Common.{◌≡◌, ◌<◌, ℕ, List, Option, Some, inr, sym, ap, ◌∙◌, subst}
 use Rattle.kmem_text.specs.declared.command.Command.TheVariants.{Drop}
 use Rattle.kmem_text.specs.declared.command.Reply.TheVariants.{Done}
 use Rattle.kmem_model.specs.Records.{RecordMap, no_records, tag_place, held_at}
 use Rattle.kmem_model.specs.History.{map_after}
 use Rattle.kmem_model.specs.RecordStep.{drop_step}
-use Rattle.kmem_model.specs.Heap.{HeapState, StandsFor, hold_at}
+use Rattle.kmem_model.specs.Heap.{HeapState, StandsFor}
 use Rattle.record_heap.specs.View.{IsReplyBy, IsStepBy}
 use Rattle.record_table.specs.Ended.{drops}
 use Rattle.record_table.specs.Tables.{TableView}

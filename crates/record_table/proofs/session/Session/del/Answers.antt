@@ -1,14 +1,11 @@
-use Rattle.std.proofs.Common.{◌≡◌, ℕ, ◌+◌, true, Option, Some, None, is_some, unwrap_or, cond, refl, sym, ap, ◌∙◌, subst, subst₂, arith, add-zero}
-use Rattle.std.specs.Option.{IfSome}
+use Rattle.std.proofs.Common.{◌≡◌, ◌+◌, true, Option, Some, None, unwrap_or, refl, sym, ap, ◌∙◌, subst, subst₂, add-zero}
 use Rattle.kmem_text.specs.declared.command.Command.TheVariants.{Del}
 use Rattle.kmem_text.specs.declared.command.Reply.{Reply}
-use Rattle.kmem_buf.specs.Buffers.{BufState}
-use Rattle.kmem_model.specs.Heap.{Object}
 use Rattle.kmem_cache.specs.Seats.{CacheSeatState, IsCacheSeat}
 use Rattle.record_table.specs.Shares.{ShareState}
 use Rattle.record_table.specs.Sessions.{SessionState, session_of, no_share}
 use Rattle.record_table.specs.Turns.{fetched_by_del}
-use Rattle.record_table.specs.Runs.{HasUsed, HasBalanced, HasCarriedOut}
+use Rattle.record_table.specs.Runs.{HasUsed, HasCarriedOut}
 use Rattle.record_table.proofs.Runs.{IsKnown, known_next, known_done, no_full, used_none, used_on, freed_is, front_same, acted_front, balanced_del}
 use Rattle.std.proofs.lemmas.List.{append-nil}
 use Rattle.record_table.proofs.session.Session.del.Given.{Over}

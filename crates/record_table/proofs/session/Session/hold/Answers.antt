@@ -1,7 +1,7 @@
-use Rattle.std.proofs.Common.{◌≡◌, ◌+◌, ◌<◌, Some, refl, sym, ap, ◌∙◌, subst, subst₂, arith}
-use Rattle.kmem_text.specs.declared.command.Command.TheVariants.{Hold, Read, Write, Drop}
+use Rattle.std.proofs.Common.{◌≡◌, ◌+◌, ◌<◌, refl, sym, ap, ◌∙◌, subst, arith}
+use Rattle.kmem_text.specs.declared.command.Command.TheVariants.{Hold}
 use Rattle.std.specs.Option.{IfSome}
-use Rattle.record_table.specs.Sessions.{SessionState, session_of, kept_at}
+use Rattle.record_table.specs.Sessions.{SessionState, session_of}
 use Rattle.record_table.specs.Tables.{TableHome}
 use Rattle.hist_lock.specs.Passes.{Site}
 use Rattle.record_table.specs.Holds.{IsHeldBy}

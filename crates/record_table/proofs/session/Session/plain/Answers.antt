@@ -1,9 +1,5 @@
-use Rattle.std.proofs.Common.{◌≡◌, ◌+◌, ◌<◌, refl, sym, ap, ◌∙◌, subst, subst₂, arith}
-use Rattle.kmem_text.specs.declared.command.Command.TheVariants.{Hold, Read, Write, Drop}
+use Rattle.std.proofs.Common.{◌+◌, refl, subst}
 use Rattle.record_table.specs.Sessions.{SessionState, session_of}
-use Rattle.record_table.specs.Tables.{TableHome}
-use Rattle.hist_lock.specs.Passes.{Site}
-use Rattle.record_table.specs.Holds.{IsHeldBy}
 use Rattle.record_table.specs.Runs.{HasCarriedOutAlone}
 use Rattle.record_table.proofs.Runs.{IsAlone, alone_next, alone_done, did_plain}
 use Rattle.record_table.proofs.session.Session.plain.Given.{Over}

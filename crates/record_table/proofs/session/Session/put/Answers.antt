@@ -1,17 +1,13 @@
 use Rattle.std.proofs.Common.{◌≡◌, ℕ, ◌+◌, ◌≤◌, true, Option, Some, None, is_some, unwrap_or, cond, refl, sym, ap, ◌∙◌, subst, subst₂, arith, add-zero}
-use Rattle.std.specs.Option.{IfSome}
 use Rattle.std.proofs.lemmas.List.{append-nil}
 use Rattle.kmem_text.specs.declared.command.Command.TheVariants.{Put}
 use Rattle.kmem_text.specs.declared.command.Reply.{Reply}
-use Rattle.kmem_text.specs.declared.command.Reply.TheVariants as said
 use Rattle.kmem_buf.specs.Buffers.{BufState}
 use Rattle.kmem_model.specs.Heap.{Object}
-use Rattle.kmem_model.specs.declared.cache_entry.CacheEntry.{CacheEntry}
-use Rattle.hist_lock.specs.History.{listed}
-use Rattle.kmem_cache.specs.Seats.{CacheSeatState, IsCacheSeat}
+use Rattle.kmem_cache.specs.Seats.{CacheSeatState}
 use Rattle.record_table.specs.Shares.{ShareState}
 use Rattle.record_table.specs.Sessions.{SessionState, session_of, no_share}
-use Rattle.record_table.specs.Runs.{asks_slabs, IsFullOf, HasUsed, HasBalanced, HasCarriedOut}
+use Rattle.record_table.specs.Runs.{HasCarriedOut}
 use Rattle.record_table.proofs.Runs.{IsKnown, known_next, known_done, used_on, freed_is, front_same, acted_front, balanced_put, asked_is}
 use Rattle.record_table.proofs.session.Session.put.Given.{Over}
 use Rattle.record_table.proofs.session.Session.put.Goals as goal

@@ -1,10 +1,6 @@
-use Rattle.std.proofs.Common.{◌≡◌, ◌+◌, ◌<◌, Some, refl, sym, ap, ◌∙◌, subst, subst₂, arith}
-use Rattle.kmem_text.specs.declared.command.Command.TheVariants.{Hold, Read, Write, Drop}
-use Rattle.std.specs.Option.{IfSome}
+use Rattle.std.proofs.Common.{◌+◌, ◌<◌, Some, refl, sym, ap, ◌∙◌, subst, arith}
+use Rattle.kmem_text.specs.declared.command.Command.TheVariants.{Write}
 use Rattle.record_table.specs.Sessions.{SessionState, HasAdded, session_of, kept_at}
-use Rattle.record_table.specs.Tables.{TableHome}
-use Rattle.hist_lock.specs.Passes.{Site}
-use Rattle.record_table.specs.Holds.{IsHeldBy}
 use Rattle.record_table.specs.Runs.{HasCarriedOutAlone}
 use Rattle.record_table.proofs.Runs.{IsAlone, alone_next, alone_done, did_held, did_idle, put_back, none_there, held_of}
 use Rattle.record_table.proofs.session.Session.write.Given.{Over}

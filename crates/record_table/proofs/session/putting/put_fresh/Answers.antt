@@ -1,5 +1,4 @@
-use Rattle.std.proofs.Common.{◌≡◌, Err, ap, sym, ◌∙◌, subst}
-use Rattle.atomic_table.specs.Seated.{TableId}
+use Rattle.std.proofs.Common.{Err, ap, ◌∙◌, subst}
 use Rattle.kmem_buf.specs.Homes.{Homes}
 use Rattle.record_heap.specs.View.{IsBlankBuffer}
 use Rattle.record_table.proofs.Brought.{fresh_ok, fresh_full}

@@ -1,4 +1,4 @@
-use Rattle.std.proofs.Common.{◌≡◌, ℕ, refl, ap, sym, ◌∙◌, subst}
+use Rattle.std.proofs.Common.{◌≡◌, refl, ap, ◌∙◌, subst}
 use Rattle.kmem_text.specs.declared.command.Command.TheVariants.{Put}
 use Rattle.record_heap.specs.declared.heap.put.Offer.TheVariants.{Nothing}
 use Rattle.record_table.specs.Shares.{ShareState, counted_on}

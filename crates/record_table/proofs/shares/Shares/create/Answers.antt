@@ -1,8 +1,8 @@
-use Rattle.std.proofs.Common.{◌≡◌, ◌+◌, ◌++◌, ◌∷◌, [], length, true, arith, sym, ap, ◌∙◌, subst}
+use Rattle.std.proofs.Common.{◌≡◌, ◌+◌, ◌++◌, ◌∷◌, [], length, arith, sym, ap, ◌∙◌}
 use Rattle.std.proofs.lemmas.List.{length-map, map-append}
 use Rattle.kmem_buf.specs.Homes.{stub_homes}
 use Rattle.kmem_buf.specs.Stubs.{StubState}
-use Rattle.record_table.specs.Shares.{SharesState, ShareState, shares_of, fresh_share, fresh_shares}
+use Rattle.record_table.specs.Shares.{SharesState, shares_of, fresh_share, fresh_shares}
 use Rattle.record_table.proofs.Sums.{made_more, dealt_more, issued_as}
 use Rattle.record_table.proofs.shares.Shares.create.Goals as goal
 

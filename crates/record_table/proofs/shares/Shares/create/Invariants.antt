@@ -1,6 +1,6 @@
-use Rattle.std.proofs.Common.{◌≡◌, ◌+◌, ◌≤◌, vec_len, vec_capacity}
+use Rattle.std.proofs.Common.{◌≡◌, ◌≤◌, vec_len, vec_capacity}
 use Rattle.kmem_buf.specs.Homes.{stub_homes}
-use Rattle.record_table.specs.Shares.{SharesState, shares_of, fresh_shares}
+use Rattle.record_table.specs.Shares.{shares_of, fresh_shares}
 use Rattle.record_table.proofs.shares.Shares.create.Given as goal
 
 -- so many shares were dealt

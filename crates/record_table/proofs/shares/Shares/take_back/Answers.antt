@@ -3,7 +3,7 @@ use Rattle.std.specs.List.{sum_by}
 use Rattle.std.proofs.lemmas.Option.{slice_get_within}
 use Rattle.std.proofs.lemmas.List.{length-map}
 use Rattle.kmem_buf.specs.Stubs.{StubState}
-use Rattle.record_table.specs.Shares.{SharesState, ShareState, out_of, brought_of, fetched_of}
+use Rattle.record_table.specs.Shares.{SharesState, ShareState, brought_of, fetched_of}
 use Rattle.record_table.proofs.Sums.{homes_stay, back_out, back_brought, back_fetched, issued_as}
 use Rattle.record_table.proofs.shares.Shares.take_back.Goals as goal
 

@@ -1,7 +1,6 @@
-use Rattle.std.proofs.Common.{◌≡◌, ◌<◌, Some, sym, ap, ◌∙◌, subst, arith}
+use Rattle.std.proofs.Common.{◌≡◌, sym, ap, ◌∙◌, subst, arith}
 use Rattle.kmem_buf.specs.Answers.{verdict_of}
 use Rattle.kmem_buf.specs.declared.client.Verdict.TheVariants.{DontKnow}
-use Rattle.kmem_answers.specs.Words.{said_of}
 use Rattle.marks.specs.Words.{MarkSeatState}
 use Rattle.hist_lock.specs.Passes.{Site}
 use Rattle.record_table.specs.Tables.{TableHome, IsStandingFor}

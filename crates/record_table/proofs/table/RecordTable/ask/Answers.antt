@@ -1,4 +1,4 @@
-use Rattle.std.proofs.Common.{◌≡◌, ℕ, Some, Option, true, unwrap_or, slice_get, refl, sym, ap, ◌∙◌, subst, subst₂}
+use Rattle.std.proofs.Common.{◌≡◌, Some, Option, unwrap_or, slice_get, refl, sym, ap, ◌∙◌, subst, subst₂}
 use Rattle.kmem_buf.specs.Answers.{Flags, verdict_of, flagged}
 use Rattle.kmem_model.specs.Records.{no_records}
 use Rattle.kmem_model.specs.History.{IsLegalHistory}

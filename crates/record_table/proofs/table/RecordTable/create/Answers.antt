@@ -1,9 +1,9 @@
-use Rattle.std.proofs.Common.{◌≡◌, ℕ, ◌+◌, ◌-◌, ◌<◌, ◌≤◌, ◌++◌, List, length, map, reverse, replicate, All, ap, sym, ◌∙◌, subst, arith}
+use Rattle.std.proofs.Common.{◌≡◌, ℕ, ◌+◌, ◌-◌, ◌++◌, List, length, map, replicate, All, ap, sym, ◌∙◌, subst, arith}
 use Rattle.std.proofs.lemmas.List.{length-append, length-replicate}
 use Rattle.std.proofs.lemmas.List.Elements.{All-same}
 use Rattle.kmem_model.specs.declared.record_entry.RecordEntry.{RecordEntry}
-use Rattle.marks.specs.Words.{MarksState, fresh_mark_seat}
-use Rattle.hist_lock.specs.Passes.{Site, PassState, fresh_passes}
+use Rattle.marks.specs.Words.{fresh_mark_seat}
+use Rattle.hist_lock.specs.Passes.{PassState, fresh_passes}
 use Rattle.record_table.specs.Shares.{fresh_shares}
 use Rattle.record_table.specs.Tables.{TableHome, home_of}
 use Rattle.record_table.specs.Turns.{IsWordsOf}
