@@ -1,1 +1,0 @@
--- A mover's whole run.
