@@ -1,9 +1,8 @@
 -- The entries of all passes are the shares of the workers.
-use Rattle.std.proofs.Common.{◌≡◌, ◌≢◌, ◌==◌, ◌+◌, ◌<◌, ◌≤◌, ℕ, zero, suc, Bool, true, false, cond, List, [], ◌∷◌, length, map, filter, refl, sym, ap, ◌∙◌, subst, ⊎_elim, arith}
+use Rattle.std.proofs.Common.{◌≡◌, ◌==◌, ◌<◌, ◌≤◌, ℕ, List, [], ◌∷◌, map, filter, refl, sym, ap, ◌∙◌, ⊎_elim, arith}
 use Rattle.std.specs.List.{All, AllByRecursion}
-use Rattle.std.proofs.lemmas.Bool.{cases_lt, cond-false, cond_both, ne_eqb}
+use Rattle.std.proofs.lemmas.Bool.{cases_lt, cond-false, ne_eqb}
 use Rattle.std.proofs.lemmas.List.Elements.{recursion_from_All}
-use Rattle.kmem_text.specs.declared.command.Command.{Command}
 use Rattle.kmem_text.specs.declared.command.Line.{Line}
 use Rattle.kmem_text.specs.Scripts.{IsWorker}
 use Rattle.kmem_model.specs.declared.record_entry.RecordEntry.{RecordEntry}

@@ -1,8 +1,7 @@
 -- A worker between two of its commands.
-use Rattle.std.proofs.Common.{◌≡◌, ◌≢◌, ◌+◌, ◌*◌, ◌<◌, ◌≤◌, ◌^◌, ◌++◌, ◌||◌, ℕ, zero, suc, Bool, true, false, cond, List, [], ◌∷◌, length, map, take, count_by, get_or, Option, Some, None, refl, sym, ap, ap₂, ◌∙◌, subst, ⊎_elim, arith, length-append}
-use Rattle.std.specs.List.{All, sum_by}
+use Rattle.std.proofs.Common.{◌≡◌, ◌+◌, ◌*◌, ◌<◌, ◌≤◌, ◌++◌, ◌||◌, ℕ, Bool, true, false, cond, List, [], ◌∷◌, length, take, count_by, get_or, Option, Some, None, refl, sym, ap, ap₂, ◌∙◌, subst, arith}
+use Rattle.std.specs.List.{All}
 use Rattle.std.specs.Option.{IfSome}
-use Rattle.std.proofs.lemmas.Bool.{cases_Bool}
 use Rattle.std.proofs.lemmas.List.{take_more, map-append, length-take-le}
 use Rattle.std.proofs.lemmas.List.Elements.{All-nil, All-cons, All-append}
 use Rattle.std.proofs.lemmas.List.Sums.{sum_by-append}
@@ -15,10 +14,9 @@ use Rattle.kmem_model.specs.declared.cache_entry.CacheEntry.TheVariants.{Alloc, 
 use Rattle.kmem_model.specs.History.{numbered, is_refusal}
 use Rattle.hist_lock.specs.History.{listed}
 use Rattle.hist_lock.specs.Passes.{Site}
-use Rattle.kmem_cache.specs.Seats.{CacheSite, CacheSeatState}
+use Rattle.kmem_cache.specs.Seats.{CacheSite}
 use Rattle.record_table.specs.Tables.{TableHome}
-use Rattle.record_table.specs.Runs.{is_put, is_del, asks_slabs, frees_slab, HasUsed, HasCarriedOut}
-use Rattle.record_table.specs.Sessions.{SessionState}
+use Rattle.record_table.specs.Runs.{is_put, is_del, asks_slabs, frees_slab, HasCarriedOut}
 use Rattle.run_workers.specs.declared.worker.Worker.{Worker}
 use Rattle.run_workers.specs.Workers.{asked_of, is_refused, is_full_entry, is_of_worker, IsReady, HasDone}
 

@@ -7,10 +7,10 @@ use Rattle.kmem_model.specs.declared.cache_entry.CacheEntry.{CacheEntry}
 use Rattle.kmem_model.specs.declared.cache_entry.CacheEntry.TheVariants.{Full}
 use Rattle.kmem_model.specs.History.{numbered, is_refusal}
 use Rattle.hist_lock.specs.Passes.{Site}
-use Rattle.kmem_cache.specs.Seats.{CacheSite, CacheSeatState, IsCacheSeat}
+use Rattle.kmem_cache.specs.Seats.{CacheSite, IsCacheSeat}
 use Rattle.record_table.specs.Tables.{TableHome}
 use Rattle.record_table.specs.Runs.{is_put, asks_slabs, frees_slab}
-use Rattle.record_table.specs.Sessions.{SessionState, IsFreshSession}
+use Rattle.record_table.specs.Sessions.{IsFreshSession}
 use Rattle.run_workers.specs.declared.worker.Worker.{Worker}
 
 -- the numbers and commands of these entries, in their order
