@@ -1,11 +1,10 @@
-use Rattle.std.proofs.Common.{◌≡◌, ◌++◌, ◌∷◌, [], ℕ, List, take, refl, sym, ap, ◌∙◌, subst, arith}
+use Rattle.std.proofs.Common.{◌++◌, ◌∷◌, [], ℕ, refl, sym, ◌∙◌, subst}
 use Rattle.std.specs.List.{flat_map}
 use Rattle.std.proofs.lemmas.List.{take_all}
-use Rattle.std.proofs.lemmas.Result.{on_ok_weaker}
 use Rattle.kmem_model.specs.declared.record_entry.RecordEntry.{RecordEntry}
-use Rattle.kmem_model.specs.RunLines.{place_line, reply_line}
+use Rattle.kmem_model.specs.RunLines.{place_line}
 use Rattle.run_print.specs.Pages.{Carries, CarriesFront}
-use Rattle.run_print.specs.Printed.{reply_at, line_to}
+use Rattle.run_print.specs.Printed.{reply_at}
 use Rattle.run_print.proofs.Carried.{carries_none, next_carried, next_front, front_more, carried_front, lines_of}
 use Rattle.run_print.proofs.print.print_places.Given.{Over}
 use Rattle.run_print.proofs.print.print_places.Goals as goal

@@ -1,4 +1,4 @@
-use Rattle.std.proofs.Common.{◌≡◌, ◌++◌, [], List, ℕ, map, sym, subst}
+use Rattle.std.proofs.Common.{◌++◌, [], map, sym, subst}
 use Rattle.std.specs.Prelude.{codes}
 use Rattle.std.specs.Io.KnownBytes.{Appends}
 use Rattle.kmem_io.specs.Streams.{AppendsFront}

@@ -1,10 +1,9 @@
-use Rattle.std.proofs.Common.{◌≡◌, ◌++◌, ◌∷◌, [], ℕ, List, take, refl, sym, ap, ◌∙◌, subst, arith}
+use Rattle.std.proofs.Common.{[], refl, sym, ◌∙◌, subst}
 use Rattle.std.specs.List.{flat_map}
 use Rattle.std.proofs.lemmas.List.{take_all}
-use Rattle.std.proofs.lemmas.Result.{on_ok_weaker}
-use Rattle.kmem_model.specs.RunLines.{place_line, reply_line}
+use Rattle.kmem_model.specs.RunLines.{reply_line}
 use Rattle.run_print.specs.Pages.{Carries, CarriesFront}
-use Rattle.run_print.specs.Printed.{reply_at, line_to}
+use Rattle.run_print.specs.Printed.{line_to}
 use Rattle.run_print.proofs.Carried.{carries_none, next_carried, next_front, front_more, carried_front, lines_to}
 use Rattle.run_print.proofs.print.print_worker.Given.{Over}
 use Rattle.run_print.proofs.print.print_worker.Goals as goal
