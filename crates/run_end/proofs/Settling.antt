@@ -1,5 +1,5 @@
 -- A cache and a heap before and after they are settled.
-use Rattle.std.proofs.Common.{◌≡◌, ℕ, false, List, length, Some, refl, sym, ap, ◌∙◌, subst}
+use Rattle.std.proofs.Common.{◌≡◌, ℕ, false, List, length, refl, sym, ap, ◌∙◌, subst}
 use Rattle.kmem_model.specs.CacheState.{CacheState, has_pending, is_out}
 use Rattle.kmem_model.specs.Records.{RecordMap}
 use Rattle.kmem_model.specs.Heap.{StandsFor}

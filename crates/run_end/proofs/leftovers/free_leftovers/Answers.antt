@@ -1,6 +1,5 @@
 use Rattle.std.proofs.Common.{◌<◌, ◌+◌, Bool, true, cond, count_by, refl, sym, ◌∙◌, subst}
 use Rattle.kmem_model.specs.Heap.{places_of}
-use Rattle.kmem_model.specs.One.{OneState}
 use Rattle.run_end.proofs.Freeing.{freeing_start, freeing_on, smaller, freed_all}
 use Rattle.run_end.proofs.leftovers.free_leftovers.Goals as goal
 

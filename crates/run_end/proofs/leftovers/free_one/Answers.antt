@@ -1,7 +1,7 @@
-use Rattle.std.proofs.Common.{◌≡◌, ◌+◌, true, [], ◌∷◌, count_by, Some, sym, ap, ◌∙◌, subst}
+use Rattle.std.proofs.Common.{◌≡◌, ◌+◌, true, [], count_by, Some, sym, ap, ◌∙◌, subst}
 use Rattle.kmem_model.specs.CacheState.{CacheState}
 use Rattle.kmem_model.specs.CacheEnter.{enter}
-use Rattle.kmem_model.specs.CacheHistory.{Follows, entered_all}
+use Rattle.kmem_model.specs.CacheHistory.{entered_all}
 use Rattle.kmem_model.specs.declared.cache_entry.CacheEntry.TheVariants.{Free}
 use Rattle.kmem_model.specs.Heap.{places_of}
 use Rattle.std.specs.Option.{option_and_then}

@@ -1,11 +1,10 @@
-use Rattle.std.proofs.Common.{◌≡◌, [], length, Some, refl, sym, ap, ◌∙◌, subst}
+use Rattle.std.proofs.Common.{◌≡◌, [], Some, refl, sym, ap, ◌∙◌, subst}
 use Rattle.kmem_model.specs.CacheState.{CacheState}
 use Rattle.kmem_model.specs.Says.{stage_in}
 use Rattle.kmem_model.specs.Settle.{Stage, Course}
 use Rattle.kmem_model.specs.SettleMeasure.{settled}
 use Rattle.kmem_model.specs.One.{OneState, buffers_of}
-use Rattle.kmem_model.specs.OneRun.{OneRun, stage_of, run_after, settled_run, run_ended, without_leftovers}
-use Rattle.kmem_model.specs.Says.{AreInBuffers}
+use Rattle.kmem_model.specs.OneRun.{OneRun, stage_of, without_leftovers}
 use Rattle.run_end.specs.Ends.{StandTogether, HasFreed}
 use Rattle.run_end.proofs.Settling.{together, stand_same, stand_calm, stand_buffers, freed_same}
 use Rattle.run_end.proofs.winding.wind_up.Goals as goal
