@@ -1,1 +1,2 @@
 pub mod Movers
+pub mod Histories

@@ -1,5 +1,5 @@
 -- A mover before it begins, and once it has made its scans and carried its jobs (this project's own).
-use Rattle.std.specs.Prelude.{◌≡◌, ℕ, ◌+◌, ◌*◌, ◌<◌, ◌≤◌, ◌^◌, true, List, [], All, length, filter, replicate}
+use Rattle.std.specs.Prelude.{◌≡◌, ◌+◌, ◌*◌, ◌<◌, ◌≤◌, ◌^◌, true, [], All, length, filter, replicate}
 use Rattle.kmem_model.specs.CacheCounts.{moves_begun, moves_ended, total}
 use Rattle.kmem_model.specs.CacheScans.{is_begin, is_scan, scanning, has_rounds}
 use Rattle.kmem_model.specs.Report.{counted_in, ends_in}
