@@ -29,6 +29,7 @@ pub fn wind_up(cache: &mut ObjectCache<RecordKind>, heap: &mut RecordHeap) -> Ta
     ensures wound_up { IsWoundUp cache.old heap.old cache.new heap.new result }
     ensures settled { IsSettled (stage_in cache.new.state heap.new.heap.objects) }
     ensures calm { has_pending cache.new.state ≡ false }
+    ensures after { AreInBuffers cache.new.state heap.new.heap.objects }
     ensures home { cache.new.home ≡ cache.old.home }
 {
     law_just_these();

@@ -2,6 +2,7 @@
 use Rattle.std.specs.Prelude.{◌≡◌, ◌+◌, ◌*◌, ◌<◌, ◌≤◌, ◌^◌, true, [], All, length, filter, replicate}
 use Rattle.kmem_model.specs.CacheCounts.{moves_begun, moves_ended, total}
 use Rattle.kmem_model.specs.CacheScans.{is_begin, is_scan, scanning, has_rounds}
+use Rattle.kmem_model.specs.Heap.{Object}
 use Rattle.kmem_model.specs.Report.{counted_in, ends_in}
 use Rattle.kmem_model.specs.declared.cache_entry.CacheEntry.TheVariants.{Scan}
 use Rattle.hist_lock.specs.Passes.{Site}
@@ -9,10 +10,10 @@ use Rattle.kmem_cache.specs.Seats.{CacheSite, IsCacheSeat}
 use Rattle.move_queue.specs.Queue.{QueueState, IsQueueSeat}
 use Rattle.record_table.specs.Tables.{TableHome}
 use Rattle.record_table.specs.Asks.{IsMoverOf, IsFreshMover}
-use Rattle.consolidator.specs.Drives.{reap_room}
+use Rattle.consolidator.specs.Drives.{reap_room, HasDriven}
 use Rattle.consolidator.specs.Rounds.{IsOfMover}
 use Rattle.consolidator.specs.Tallies.{tally_of, ends_of}
-use Rattle.consolidator.specs.Works.{CountsGiven}
+use Rattle.consolidator.specs.Works.{Work, CountsGiven}
 use Rattle.run_movers.specs.declared.mover.MoverTask.{MoverTask}
 
 -- nothing was done with its seats and its mover, and there is room for all its scans, and for the jobs of all pushes
@@ -29,8 +30,28 @@ pub record IsReadyMover (table : Site TableHome) (cache : CacheSite) (queue : Qu
   pub small : queue.terms.quotas + 64 * t.plan.scans ≤ 2 ^ 61
   pub numbers : t.plan.first + 2 * t.plan.scans < 2 ^ 32
 
+-- its work, as the words of scans and jobs see it
+abbrev pub work_of : MoverTask → Work Object
+work_of t =
+    record {
+      seat = t.seat;
+      place = t.place;
+      notes = record {
+        lent = t.seat.lent;
+        returned = t.seat.returned;
+        tally = t.tally;
+        flags = t.mover.flags;
+        last = t.mover.last;
+        answered = t.mover.answered;
+        brought = t.mover.share.brought;
+        fetched = t.mover.share.fetched;
+      };
+    }
+
 -- what its scans and jobs have come to
 pub record HasMoved (table : Site TableHome) (cache : CacheSite) (queue : QueueState) (old new : MoverTask) : Type 0 where
+  -- it went by its plan: scans and jobs, the reap where there is one, and the last scan
+  pub driven : HasDriven old.plan.reaps cache.depot.places old.plan.desperate old.plan.scans (work_of old) (work_of new)
   -- its entries are a mover's, with so many scans, each followed by a round
   pub kinds : All IsOfMover new.seat.pass.mine
   pub scans : filter is_scan new.seat.pass.mine ≡ replicate old.plan.scans (Scan old.plan.desperate)

@@ -49,6 +49,7 @@ impl Page {
     pub fn make_room<W: Sink>(&mut self, out: &mut W) -> Result<(), Failed>
         requires out { CanRise (W.faults out.old) }
         ensures room { OnOk result (length self.new + 700 ≤ 65536) }
+        ensures kept { length self.old + 700 ≤ 65536 → (self.new ≡ self.old) × (W.written out.new ≡ W.written out.old) }
         ensures carried { OnOk result (Carries (W.written out.old) (W.written out.new) self.old self.new []) }
         ensures front { CarriesFront (W.written out.old) (W.written out.new) self.old [] }
         ensures counted { CountsFaults (W.faults out.old) (W.faults out.new) result }

@@ -21,6 +21,7 @@ returns g c =
     let stays = c.drive.ensures.stays.1 in
     record {
       moved = record {
+        driven = c.drive.ensures.driven;
         kinds = subst (All IsOfMover) (sym mine) whole.worked.entered.kinds;
         scans = ap (filter is_scan) mine ∙ whole.scans_are;
         rounds = ap (λ xs. has_rounds (scanning xs)) mine ∙ whole.rounds;
