@@ -5,7 +5,9 @@ use Rattle.std.specs.Option.{option_map_or}
 use Rattle.std.proofs.lemmas.List.{length-map, map-append}
 use Rattle.std.proofs.lemmas.List.Sums.{count_by-le-length, sum_by-set}
 use Rattle.kmem_model.specs.CacheHistory.{Follows}
-use Rattle.kmem_model.specs.CacheState.{CacheState}
+use Rattle.kmem_model.specs.CacheState.{CacheState, out_count}
+use Rattle.kmem_model.specs.CacheCounts.{total, made_out, made_free}
+use Rattle.kmem_model.specs.SettleWhole.{IsWhole}
 use Rattle.kmem_model.specs.declared.cache_entry.CacheEntry.{CacheEntry}
 use Rattle.kmem_model.specs.declared.cache_entry.CacheEntry.TheVariants.{Free}
 use Rattle.kmem_model.specs.Heap.{HeapState, Object, places_of, object_at, is_leftover, least_left_in}
@@ -15,7 +17,7 @@ use Rattle.kmem_model.specs.One.{OneState, buffers_of, least_leftover}
 use Rattle.kmem_model.specs.OneRun.{without_leftover, without_leftovers}
 use Rattle.object_cache.specs.Cache.{CacheView}
 use Rattle.record_heap.specs.View.{HeapView}
-use Rattle.run_end.specs.Ends.{StandTogether, FreesOne, HasFreed}
+use Rattle.run_end.specs.Ends.{StandTogether, AreFewer, FreesOne, HasFreed}
 use Rattle.run_end.proofs.Within.{IsFreeing}
 
 abbrev frees_of : List ℕ → List CacheEntry
@@ -25,7 +27,7 @@ frees_of numbers = map (λ n. Free n) numbers
 abbrev Chains : Type 0
 Chains = (front rest : List CacheEntry) (s t u : CacheState) → Follows s front t → Follows t rest u → Follows s (front ++ rest) u
 
-pub freeing_start : (s : OneState) (cache : CacheView) (heap : HeapView) (more : Bool) → StandTogether s cache heap → more ≡ true → IsFreeing s cache cache heap more
+pub freeing_start : (s : OneState) (cache : CacheView) (heap : HeapView) (more : Bool) → StandTogether s cache heap → more ≡ true → IsFreeing s cache heap cache heap more
 freeing_start s cache heap more at is =
     record {
       n = buffers_of s.cache;
@@ -36,6 +38,7 @@ freeing_start s cache heap more at is =
       last = λ no. absurd (both more is no);
       numbers = [];
       frees = refl;
+      counted = refl;
     }
   where
     both : (x : Bool) → x ≡ true → x ≡ false → ⊥
@@ -47,10 +50,14 @@ none_left : (n : ℕ) (s : OneState) → least_leftover s ≡ None → without_l
 none_left zero s e = refl
 none_left (suc n) s e = ap (λ x. option_map_or (λ b. without_leftovers n (without_leftover s b)) x s) e
 
-pub freeing_on : Chains → (s : OneState) (start cache cache' : CacheView) (heap heap' : HeapView) (more was : Bool) (f : IsFreeing s start cache heap was) → FreesOne f.state cache heap more cache' heap' → IsFreeing s start cache' heap' more
-freeing_on chain s start cache cache' heap heap' true was f does = by_fuel f.n f.fuel f.same
+-- how many buffers are out along entries
+abbrev Along : Type 0
+Along = (s t : CacheState) (entries : List CacheEntry) → IsWhole s → Follows s entries t → out_count t + total made_free entries ≡ out_count s + total made_out entries
+
+pub freeing_on : Chains → Along → (s : OneState) (start cache cache' : CacheView) (begin heap heap' : HeapView) (more was : Bool) (f : IsFreeing s start begin cache heap was) → FreesOne f.state cache heap more cache' heap' → IsFreeing s start begin cache' heap' more
+freeing_on chain along s start cache cache' begin heap heap' true was f does = by_fuel f.n f.fuel f.same
   where
-    by_fuel : (n : ℕ) → count_by (λ x. x) (places_of heap.heap.objects) ≤ n → without_leftovers n f.state ≡ without_leftovers (buffers_of s.cache) s → IsFreeing s start cache' heap' true
+    by_fuel : (n : ℕ) → count_by (λ x. x) (places_of heap.heap.objects) ≤ n → without_leftovers n f.state ≡ without_leftovers (buffers_of s.cache) s → IsFreeing s start begin cache' heap' true
     by_fuel zero fuel same = absurd (omega (arith, fuel, does.4))
     by_fuel (suc n) fuel same =
         record {
@@ -62,8 +69,9 @@ freeing_on chain s start cache cache' heap heap' true was f does = by_fuel f.n f
           last = λ no. absurd (cc);
           numbers = f.numbers ++ does.0 ∷ [];
           frees = subst (λ es. Follows start.state es cache'.state) (sym (map-append (λ n. Free n) f.numbers (does.0 ∷ []))) (chain (frees_of f.numbers) (Free does.0 ∷ []) start.state cache.state cache'.state f.frees does.2);
+          counted = omega (arith, f.counted, does.4, along cache.state cache'.state (Free does.0 ∷ []) (subst IsWhole (sym f.stands.state) f.stands.stands.whole) does.2);
         }
-freeing_on chain s start cache cache' heap heap' false was f does =
+freeing_on chain along s start cache cache' begin heap heap' false was f does =
     record {
       n = f.n;
       state = f.state;
@@ -73,14 +81,21 @@ freeing_on chain s start cache cache' heap heap' false was f does =
       last = λ no. does.0;
       numbers = f.numbers;
       frees = subst (λ (c : CacheView). Follows start.state (frees_of f.numbers) c.state) (sym does.1) f.frees;
+      counted = subst (λ (h : HeapView). AreFewer start begin cache' h) (sym does.2) (subst (λ (c : CacheView). AreFewer start begin c heap) (sym does.1) f.counted);
     }
 
-pub freed_all : (s : OneState) (start cache : CacheView) (heap heap' : HeapView) (more : Bool) → IsFreeing s start cache heap' more → more ≡ false → HasFreed s start heap cache heap'
-freed_all s start cache heap heap' more f is = record {
-  numbers = f.numbers;
-  frees = f.frees;
-  stands = subst (λ (t : OneState). StandTogether t cache heap') (sym (none_left f.n f.state (f.last is)) ∙ f.same) f.stands;
-}
+pub freed_all : (s : OneState) (start cache : CacheView) (heap heap' : HeapView) (more : Bool) → IsFreeing s start heap cache heap' more → more ≡ false → HasFreed s start heap cache heap'
+freed_all s start cache heap heap' more f is =
+    record {
+      numbers = f.numbers;
+      frees = f.frees;
+      stands = subst (λ (t : OneState). StandTogether t cache heap') whole f.stands;
+      none = ap least_leftover (sym whole) ∙ f.last is;
+      counted = f.counted;
+    }
+  where
+    whole : f.state ≡ without_leftovers (buffers_of s.cache) s
+    whole = sym (none_left f.n f.state (f.last is)) ∙ f.same
 
 -- fewer objects, or the last turn
 pub smaller : (s : OneState) (cache cache' : CacheView) (heap heap' : HeapView) (more : Bool) → FreesOne s cache heap more cache' heap' → count_by (λ x. x) (places_of heap'.heap.objects) + cond more 1 0 < count_by (λ x. x) (places_of heap.heap.objects) + 1

@@ -1,3 +1,6 @@
 pub mod Within
 pub mod Freeing
 pub mod Settling
+pub mod Sizes
+pub mod Left
+pub mod Endings

@@ -7,10 +7,10 @@ use Rattle.kmem_model.specs.One.{OneState, buffers_of, least_leftover}
 use Rattle.kmem_model.specs.OneRun.{without_leftovers}
 use Rattle.object_cache.specs.Cache.{CacheView}
 use Rattle.record_heap.specs.View.{HeapView}
-use Rattle.run_end.specs.Ends.{StandTogether}
+use Rattle.run_end.specs.Ends.{StandTogether, AreFewer}
 
 -- what is left after some leftovers were freed, and that freeing the rest leaves what freeing all does
-pub record IsFreeing (s : OneState) (cache : CacheView) (cache' : CacheView) (heap' : HeapView) (more : Bool) : Type 0 where
+pub record IsFreeing (s : OneState) (cache : CacheView) (heap : HeapView) (cache' : CacheView) (heap' : HeapView) (more : Bool) : Type 0 where
   pub n : ℕ
   pub state : OneState
   pub stands : StandTogether state cache' heap'
@@ -19,3 +19,4 @@ pub record IsFreeing (s : OneState) (cache : CacheView) (cache' : CacheView) (he
   pub last : more ≡ false → least_leftover state ≡ None
   pub numbers : List ℕ
   pub frees : Follows cache.state (map (λ n. Free n) numbers) cache'.state
+  pub counted : AreFewer cache heap cache' heap'

@@ -4,7 +4,7 @@ ghost use Rattle.std.specs.Prelude.{◌≡◌};
 ghost use Rattle.kmem_model.specs.One.{OneState};
 ghost use Rattle.run_end.specs.Ends.{StandTogether, FreesOne, HasFreed};
 
-use kmem_model::{law_follows, law_one_settle, law_room};
+use kmem_model::{law_counts, law_follows, law_one_settle, law_room};
 use object_cache::ObjectCache;
 use record_heap::{RecordHeap, RecordKind};
 
@@ -16,6 +16,7 @@ pub fn free_leftovers(cache: &mut ObjectCache<RecordKind>, heap: &mut RecordHeap
     ensures home { (heap.new.home ≡ heap.old.home) × (cache.new.home ≡ cache.old.home) }
 {
     law_follows();
+    law_counts();
     let mut more = true;
     'freeing: while more {
         more = free_one(cache, heap);

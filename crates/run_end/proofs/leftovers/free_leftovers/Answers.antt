@@ -19,7 +19,7 @@ freeing-preserved c =
       home = (c.free_one-more.ensures.home.0 ∙ c.freeing.invariant.home.0, c.free_one-more.ensures.home.1 ∙ c.freeing.invariant.home.1);
       freeing = λ s given.
           let f = c.freeing.invariant.freeing s given in
-          freeing_on c.law_follows.ensures.chain s c.args.cache.now c.freeing.cache c.free_one-more.new.cache c.freeing.heap c.free_one-more.new.heap c.free_one-more.result c.freeing.more f (c.free_one-more.ensures.freed f.state f.stands);
+          freeing_on c.law_follows.ensures.chain c.law_counts.ensures.out_along s c.args.cache.now c.freeing.cache c.free_one-more.new.cache c.args.heap.now c.freeing.heap c.free_one-more.new.heap c.free_one-more.result c.freeing.more f (c.free_one-more.ensures.freed f.state f.stands);
     }
 
 pub returns-clause-freed : goal.returns-clause-freed

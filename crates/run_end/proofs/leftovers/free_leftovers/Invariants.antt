@@ -10,7 +10,7 @@ abbrev pub invariant-freeing : goal.invariant-freeing
 invariant-freeing l = record {
   stand : (s : OneState) × StandTogether s l.cache l.heap;
   home : (l.heap.home ≡ l.fn.heap.home) × (l.cache.home ≡ l.fn.cache.home);
-  freeing : (s : OneState) → StandTogether s l.fn.cache l.fn.heap → IsFreeing s l.fn.cache l.cache l.heap l.more;
+  freeing : (s : OneState) → StandTogether s l.fn.cache l.fn.heap → IsFreeing s l.fn.cache l.fn.heap l.cache l.heap l.more;
 }
 
 abbrev pub decreases-freeing : goal.decreases-freeing

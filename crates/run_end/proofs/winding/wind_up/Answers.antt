@@ -1,11 +1,15 @@
-use Rattle.std.proofs.Common.{◌≡◌, [], Some, refl, sym, ap, ◌∙◌, subst}
+use Rattle.std.proofs.Common.{◌≡◌, ℕ, List, [], Some, refl, sym, ap, ◌∙◌, subst}
 use Rattle.kmem_model.specs.CacheState.{CacheState}
 use Rattle.kmem_model.specs.Says.{stage_in}
 use Rattle.kmem_model.specs.Settle.{Stage, Course}
 use Rattle.kmem_model.specs.SettleMeasure.{settled}
 use Rattle.kmem_model.specs.One.{OneState, buffers_of}
 use Rattle.kmem_model.specs.OneRun.{OneRun, stage_of, without_leftovers}
+use Rattle.kmem_model.specs.Records.{RecordMap}
+use Rattle.kmem_model.specs.Heap.{StandsFor}
 use Rattle.run_end.specs.Ends.{StandTogether, HasFreed}
+use Rattle.run_end.proofs.Left.{there_count}
+use Rattle.run_end.proofs.Endings.{Ending, ending}
 use Rattle.run_end.proofs.Settling.{together, stand_same, stand_calm, stand_buffers, freed_same}
 use Rattle.run_end.proofs.winding.wind_up.Goals as goal
 
@@ -21,18 +25,22 @@ free_leftovers-requires-clause-stand c =
           (together m addresses cache heap c.law_whole.ensures.whole c.requires.calm c.requires.stand.2 buffers),
     )
 
--- what they stood for once the leftovers are gone
-stood : (c : goal.After-settle-arg-2-1) → (s : OneState) × StandTogether s c.free_leftovers.new.cache c.free_leftovers.new.heap
-stood c =
+-- what is left once the leftovers are gone, where the heap stood for this map at these addresses
+freed_of : (c : goal.After-settle-arg-2-1) (m : RecordMap) (addresses : List ℕ) → StandsFor m addresses c.args.heap.now.heap →
+    HasFreed (record { map = m; cache = c.args.cache.now.state; addresses = addresses }) c.args.cache.now c.args.heap.now c.free_leftovers.new.cache c.free_leftovers.new.heap
+freed_of c m addresses stands =
     let cache = c.args.cache.now in
     let heap = c.args.heap.now in
-    let m = c.requires.stand.0 in
-    let addresses = c.requires.stand.1 in
     let buffers = c.law_just_these.ensures cache.state heap.heap.objects c.law_whole.ensures.whole c.requires.size c.meet_all.ensures.out c.requires.count in
     let s : OneState = record { map = m; cache = cache.state; addresses = addresses } in
-    let at = stand_same s cache c.meet_all.new.cache heap c.meet_all.new.heap c.meet_all.ensures.cache c.meet_all.ensures.heap
-    (together m addresses cache heap c.law_whole.ensures.whole c.requires.calm c.requires.stand.2 buffers) in
-    (without_leftovers (buffers_of s.cache) s, (c.free_leftovers.ensures.freed s at).stands)
+    freed_same s cache c.meet_all.new.cache c.free_leftovers.new.cache heap c.meet_all.new.heap c.free_leftovers.new.heap c.meet_all.ensures.cache c.meet_all.ensures.heap
+    (c.free_leftovers.ensures.freed s (stand_same s cache c.meet_all.new.cache heap c.meet_all.new.heap c.meet_all.ensures.cache c.meet_all.ensures.heap
+    (together m addresses cache heap c.law_whole.ensures.whole c.requires.calm stands buffers)))
+
+stood : (c : goal.After-settle-arg-2-1) → (s : OneState) × StandTogether s c.free_leftovers.new.cache c.free_leftovers.new.heap
+stood c =
+    let s : OneState = record { map = c.requires.stand.0; cache = c.args.cache.now.state; addresses = c.requires.stand.1 } in
+    (without_leftovers (buffers_of s.cache) s, (freed_of c c.requires.stand.0 c.requires.stand.1 c.requires.stand.2).stands)
 
 pub settle-tally-requires-clause-calm : goal.settle-tally-requires-clause-calm
 settle-tally-requires-clause-calm c = let at = stood c in stand_calm at.0 c.free_leftovers.new.cache c.free_leftovers.new.heap at.1
@@ -71,3 +79,33 @@ returns-clause-wound_up c =
           c.settle-tally.ensures.buffers in
           subst (λ (r : OneRun). StandTogether r.state c.settle-tally.new.cache c.settle-tally.new.heap) (sym after.0) (record { stands = after.1; state = refl });
     }
+
+-- the same at the end
+end_freed : (c : goal.After-law_whole-2) (m : RecordMap) (addresses : List ℕ) → StandsFor m addresses c.args.heap.now.heap →
+    HasFreed (record { map = m; cache = c.args.cache.now.state; addresses = addresses }) c.args.cache.now c.args.heap.now c.free_leftovers.new.cache c.free_leftovers.new.heap
+end_freed c m addresses stands =
+    let cache = c.args.cache.now in
+    let heap = c.args.heap.now in
+    let buffers = c.law_just_these.ensures cache.state heap.heap.objects c.law_whole.ensures.whole c.requires.size c.meet_all.ensures.out c.requires.count in
+    let s : OneState = record { map = m; cache = cache.state; addresses = addresses } in
+    freed_same s cache c.meet_all.new.cache c.free_leftovers.new.cache heap c.meet_all.new.heap c.free_leftovers.new.heap c.meet_all.ensures.cache c.meet_all.ensures.heap
+    (c.free_leftovers.ensures.freed s (stand_same s cache c.meet_all.new.cache heap c.meet_all.new.heap c.meet_all.ensures.cache c.meet_all.ensures.heap
+    (together m addresses cache heap c.law_whole.ensures.whole c.requires.calm stands buffers)))
+
+end_of : (c : goal.After-law_whole-2) (m : RecordMap) (addresses : List ℕ) → StandsFor m addresses c.args.heap.now.heap →
+    Ending m addresses c.args.cache.now c.free_leftovers.new.cache c.free_leftovers.new.heap c.settle-tally.new.cache c.settle-tally.new.heap
+end_of c m addresses stands =
+    ending c.law_room.ensures.leftover c.law_stage.ensures.whole c.law_stage.ensures.said c.law_counts.ensures.out_along m addresses c.args.cache.now c.free_leftovers.new.cache c.settle-tally.new.cache
+    c.args.heap.now c.free_leftovers.new.heap c.settle-tally.new.heap c.settle-tally.result (there_count c.args.heap.now.heap.objects ∙ c.requires.count) (end_freed c m addresses stands) c.settle-tally.ensures.settles
+
+pub returns-clause-stands : goal.returns-clause-stands
+returns-clause-stands c = λ m addresses stands. let e = end_of c m addresses stands in (e.others, e.stands)
+
+pub returns-clause-records : goal.returns-clause-records
+returns-clause-records c = (end_of c c.requires.stand.0 c.requires.stand.1 c.requires.stand.2).records
+
+pub returns-clause-live : goal.returns-clause-live
+returns-clause-live c = λ m addresses stands. (end_of c m addresses stands).live
+
+pub returns-clause-fewest : goal.returns-clause-fewest
+returns-clause-fewest c = λ m addresses stands free. (end_of c m addresses stands).fewest c.law_answers.ensures c.law_fewest.ensures free
