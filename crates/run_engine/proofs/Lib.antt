@@ -1,0 +1,13 @@
+pub mod Rows
+pub mod Counts
+pub mod Dealing
+pub mod Crews
+pub mod Taken
+pub mod Histories
+pub mod Scans
+pub mod States
+pub mod Printable
+pub mod Closings
+pub mod Movers
+pub mod Reports
+pub mod Parting
