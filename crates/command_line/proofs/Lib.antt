@@ -1,0 +1,4 @@
+pub mod Plain
+pub mod Levels
+pub mod Reading
+pub mod Refused
