@@ -1,3 +1,4 @@
+pub mod Building
 pub mod Plain
 pub mod Levels
 pub mod Reading

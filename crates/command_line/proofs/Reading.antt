@@ -2,6 +2,7 @@
 use Rattle.std.proofs.Common.{◌≡◌, ◌⊎◌, Bool, true, false, List, [], ◌∷◌, codes, Some, None, refl, sym, ap, ap₂, ◌∙◌, subst, inl, inr}
 use Rattle.std.specs.Prelude.{fold, ◌||◌, find, option_map, if◌then◌else◌}
 use Rattle.std.specs.List.{list_all}
+use Rattle.std.proofs.lemmas.Bool.{cond-false}
 use Rattle.std.proofs.lemmas.Slice.Eq.{bytes_eq-Decides}
 use Rattle.std.specs.Str.{bytes_eq}
 use Rattle.clap.specs.Words.{Text, Shape, fault_of, is_simple, is_simple_and_free, subcommand_of, IsAmong, built}
@@ -15,7 +16,7 @@ use Rattle.clap.proofs.OnLiterals.{clap_on_literals}
 use Rattle.command_line.specs.CommandLine.{whole_app, one_app, check_app, plan_found, is_plain_word}
 use Rattle.command_line.proofs.Plain.{plain_met, plain_other}
 use Rattle.command_line.proofs.Levels.{IsSubcommand, IsRead, below_top, names, whole_fault, read_taken, read_missing, read_stray}
-use Rattle.kmem_model.specs.Words.{plan_of, one_of, check_of}
+use Rattle.kmem_model.specs.Words.{plan_of}
 
 pub free : is_simple_and_free whole_app ≡ true
 unfolding clap_on_literals
@@ -112,7 +113,7 @@ abbrev sub_names : List Text
 sub_names = codes "one" ∷ codes "check" ∷ []
 
 strange_plan : (w : Text) (further : List Text) → bytes_eq w (codes "one") ≡ false → bytes_eq w (codes "check") ≡ false → plan_of (w ∷ further) ≡ None
-strange_plan w further e1 e2 = ap₂ (λ (b d : Bool). if b then one_of further else (if d then check_of further else None)) e1 e2
+strange_plan w further e1 e2 = cond-false (bytes_eq w (codes "one")) _ _ e1 ∙ cond-false (bytes_eq w (codes "check")) _ _ e2
 
 named_names : named sub_names ≡ names
 unfolding clap_on_literals

@@ -1,8 +1,9 @@
 //! The command line, as `clap` has it: subcommands with positional arguments, without help and version.
 
-ghost use Rattle.std.specs.Prelude.{◌≡◌, IfOk};
-ghost use Rattle.clap.specs.Words.{app_of};
-ghost use Rattle.command_line.specs.CommandLine.{whole_app, one_app, check_app, IsLocal};
+ghost use Rattle.std.specs.Prelude.{◌≡◌, IfOk, false, codes};
+ghost use Rattle.clap.specs.Words.{app_of, rule_of, new_app};
+ghost use Rattle.clap.specs.Simple.{on_top};
+ghost use Rattle.command_line.specs.CommandLine.{whole_app, one_app, check_app, needed, bare, IsLocal};
 
 use clap::{Arg, Command};
 use std::alloc::{AllocError, Global};
@@ -13,14 +14,28 @@ pub fn whole_command<'a>(alloc: Global) -> Result<Command<'a>, AllocError>
 {
     let one = one_command(alloc)?;
     let check = check_command(alloc)?;
-    let bare = Command::new(alloc, "kmemrun")
+    let whole = bare_command(alloc).subcommand(one)?.subcommand(check)?;
+    Ok(whole)
+}
+
+/// A subcommand has to be there; there is no help and no version.
+fn bare_command<'a>(alloc: Global) -> Command<'a>
+    ensures { app_of result ≡ on_top bare (new_app (codes "kmemrun")) }
+{
+    Command::new(alloc, "kmemrun")
         .no_binary_name(true)
         .disable_help_flag(true)
         .disable_help_subcommand(true)
         .disable_version_flag(true)
-        .subcommand_required(true);
-    let whole = bare.subcommand(one)?.subcommand(check)?;
-    Ok(whole)
+        .subcommand_required(true)
+}
+
+/// An argument that has to be there.
+fn needed<'a>(alloc: Global, id: &'a str) -> Arg<'a>
+    ensures rule { rule_of result ≡ needed id.entry.now }
+    ensures local { result.global ≡ false }
+{
+    Arg::new(alloc, id).required(true)
 }
 
 /// `one S C` and `one S C EVERY`.
@@ -28,13 +43,10 @@ fn one_command<'a>(alloc: Global) -> Result<Command<'a>, AllocError>
     ensures app { IfOk result (λ command. app_of command ≡ one_app) }
     ensures local { IfOk result IsLocal }
 {
-    let slabs = Arg::new(alloc, "slabs").required(true);
-    let chunks = Arg::new(alloc, "chunks").required(true);
-    let every = Arg::new(alloc, "every");
     let one = Command::new(alloc, "one")
-        .arg(slabs)?
-        .arg(chunks)?
-        .arg(every)?;
+        .arg(needed(alloc, "slabs"))?
+        .arg(needed(alloc, "chunks"))?
+        .arg(Arg::new(alloc, "every"))?;
     Ok(one)
 }
 
@@ -43,7 +55,6 @@ fn check_command<'a>(alloc: Global) -> Result<Command<'a>, AllocError>
     ensures app { IfOk result (λ command. app_of command ≡ check_app) }
     ensures local { IfOk result IsLocal }
 {
-    let workers = Arg::new(alloc, "workers").required(true);
-    let check = Command::new(alloc, "check").arg(workers)?;
+    let check = Command::new(alloc, "check").arg(needed(alloc, "workers"))?;
     Ok(check)
 }
