@@ -1,5 +1,5 @@
 -- A bench after a command.
-use Rattle.std.proofs.Common.{◌≡◌, ℕ, zero, suc, ◌+◌, ◌*◌, ◌<◌, ◌++◌, Bool, true, false, cond, List, [], ◌∷◌, length, count_by, map, get_or, set, option_map, Option, Some, None, is_some, Result, Ok, Err, ⊎_elim, sym, ◌∙◌, ap, refl, subst, arith}
+use Rattle.std.proofs.Common.{◌≡◌, ℕ, zero, suc, ◌+◌, ◌<◌, ◌++◌, Bool, true, false, cond, List, [], ◌∷◌, length, count_by, map, get_or, set, option_map, Option, Some, None, is_some, Result, Ok, Err, ⊎_elim, sym, ◌∙◌, ap, refl, subst, arith}
 use Rattle.std.specs.Bool.{then_some}
 use Rattle.std.specs.Option.{IsSome}
 use Rattle.std.proofs.lemmas.Bool.{cases_eq}
@@ -9,14 +9,14 @@ use Rattle.kmem_text.specs.declared.command.Reply.{Reply}
 use Rattle.kmem_model.specs.Records.{held_at}
 use Rattle.kmem_model.specs.Heap.{least_left_in, HeapState, address_in, address_of, hold_at, object_at, places_of, is_leftover}
 use Rattle.kmem_model.specs.CacheState.{CacheState}
-use Rattle.kmem_model.specs.One.{OneState, one_step, one_workers}
+use Rattle.kmem_model.specs.One.{OneState, one_step}
 use Rattle.kmem_model.specs.OneStands.{OneStands, OneEnds}
 use Rattle.kmem_buf.specs.Homes.{Homes}
 use Rattle.record_heap.specs.View.{HeapView, HoldState, IsHoldAt, IsFrame}
 use Rattle.kmem_model.specs.CacheOrder.{least_below}
 use Rattle.std.specs.Option.{option_or}
 use Rattle.std.proofs.lemmas.List.Sums.{sum_by-set}
-use Rattle.kmemrun.specs.Bench.{BenchView, StandsAt, Stands, IsOfBench, IsCarriedOut, CarriesOut, IsHoldAtPlace, reply_in}
+use Rattle.kmemrun.specs.Bench.{BenchView, StandsAt, Stands, IsCarriedOut, CarriesOut, IsHoldAtPlace, reply_in}
 use Rattle.kmem_text.specs.Replies.{IsReplyWithinNames}
 use Rattle.std.specs.Option.{IfSome}
 use Rattle.kmem_buf.specs.Buffers.{BufState}

@@ -1,5 +1,5 @@
 -- What a run of the program writes, or which status it ends with, by its words and its input (this project's own rule).
-use Rattle.std.specs.Prelude.{◌≡◌, ◌++◌, ◌*◌, ℕ, nat_lt, List, [], length, Option, Some, None, Result, Ok, Err, IsOkAnd, IsErrOf, if◌then◌else◌}
+use Rattle.std.specs.Prelude.{◌≡◌, ◌++◌, ◌*◌, ℕ, nat_lt, List, length, Option, Some, None, Result, Ok, Err, IsOkAnd, IsErrOf, if◌then◌else◌}
 use Rattle.kmem_text.specs.Grammar.{Plain, script_of, first_bad_of}
 use Rattle.kmem_text.specs.declared.spelling.LineFault.{LineFault}
 use Rattle.kmem_model.specs.Records.{no_records}

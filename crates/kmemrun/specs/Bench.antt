@@ -1,5 +1,5 @@
 -- What `one` runs on, and when it stands for what `one` keeps (this project's own).
-use Rattle.std.specs.Prelude.{ℕ, ◌≡◌, ◌<◌, ◌≤◌, ◌*◌, ◌+◌, ◌++◌, Bool, true, false, List, Option, Some, None, IfSome, is_some, length, count_by, drop, slice_index_or}
+use Rattle.std.specs.Prelude.{ℕ, ◌≡◌, ◌<◌, ◌≤◌, ◌*◌, ◌+◌, Bool, true, false, List, Option, Some, None, IfSome, is_some, length, count_by, slice_index_or}
 use Rattle.kmem_text.specs.declared.command.Command.{Command}
 use Rattle.kmem_text.specs.declared.command.Command.TheVariants.{Get, First, Next, Count}
 use Rattle.kmem_text.specs.declared.command.Line.{Line}

@@ -4,15 +4,13 @@
 ghost use Rattle.std.specs.Prelude.{◌≡◌, map, string_bytes, IfOk, IfErr};
 ghost use Rattle.kmem_io.specs.Streams.{CanRise};
 ghost use Rattle.kmem_model.specs.Words.{plan_of};
-ghost use Rattle.kmemrun.specs.Endings.{ending_status};
-ghost use Rattle.kmemrun.specs.Runs.{stream, Tells, IsRunOrWanting, IsRefusal};
+ghost use Rattle.kmemrun.specs.Runs.{stream, IsRunOrWanting, IsRefusal};
 
 mod bench;
 mod fault;
 mod one;
 mod status;
 mod top;
-mod words;
 
 use kmem_io::{Gate, Sink, Source, StdSink, StdSource};
 use status::{Ending, Status};
@@ -22,7 +20,7 @@ use std::rt::Env;
 use std::sync::Wait;
 use std::thread::Threads;
 use std::{env, io};
-use top::top;
+use top::{answer, top};
 
 /// The program's own gate, which holds nobody.
 struct Open;
@@ -37,7 +35,7 @@ fn main(rt: HostRuntime) -> ExitCode {
     let mut err = StdSink::create(rt.stderr());
     let status = match arguments(&rt, rt.alloc()) {
         Ok(words) => run(&rt, rt.alloc(), &words, &mut input, &mut out, &mut err),
-        Err(ending) => refuse(ending, &mut err),
+        Err(ending) => answer(ending, &mut err),
     };
     status.exit_code()
 }
@@ -71,7 +69,7 @@ fn run<T: Wait + Threads + Sync, R: Source, W: Sink, E: Sink>(
 {
     match as_words(alloc, given) {
         Ok(words) => top(rt, alloc, &words, input, out, err, &Open).status,
-        Err(error) => refuse(Ending::from(error), err),
+        Err(error) => answer(Ending::from(error), err),
     }
 }
 
@@ -83,16 +81,6 @@ fn as_words(alloc: Global, given: &[String]) -> Result<Vec<&str>, AllocError>
         words.push(word.as_str())?;
     }
     Ok(words)
-}
-
-/// Tells an ending before anything was read.
-fn refuse<E: Sink>(ending: Ending, err: &mut E) -> Status
-    requires { CanRise (E.faults err.old) }
-    ensures status { result ≡ ending_status ending }
-    ensures told { Tells (stream E.written E.faults err.old err.new) ending }
-{
-    ending.tell(err);
-    ending.status()
 }
 
 #[cfg(test)]

@@ -120,6 +120,8 @@ fn usage(rt: HostRuntime) -> Result<(), Fail> {
     assert!(rt; refused(&rt, rt.alloc(), &["one", "2", "2", "-1"])?);
     assert!(rt; refused(&rt, rt.alloc(), &["one", "2", "2", "100001"])?);
     assert!(rt; refused(&rt, rt.alloc(), &["one", "2", "2", "1", "1"])?);
+    assert!(rt; refused(&rt, rt.alloc(), &["run", "8", "8", "2", "1", "mild"])?);
+    assert!(rt; refused(&rt, rt.alloc(), &["run", "8", "8", "+2", "1"])?);
     assert!(rt; refused(&rt, rt.alloc(), &["check"])?);
     assert!(rt; refused(&rt, rt.alloc(), &["check", "0"])?);
     assert!(rt; refused(&rt, rt.alloc(), &["check", "17"])?);

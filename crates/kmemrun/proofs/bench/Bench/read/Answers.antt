@@ -1,15 +1,13 @@
 use Rattle.std.proofs.Common.{◌≡◌, ◌<◌, length, get_or, set, Option, Some, None, is_some, refl, sym, ap, ◌∙◌, subst, arith}
 use Rattle.std.specs.Option.{IfSome}
 use Rattle.kmem_text.specs.declared.command.Command.TheVariants.{Read}
-use Rattle.kmem_text.specs.declared.command.Reply.TheVariants.{Idle}
 use Rattle.kmem_model.specs.Records.{held_at, tag_place}
 use Rattle.kmem_model.specs.RecordStep.{read_step, step}
-use Rattle.kmem_model.specs.Heap.{StandsFor, hold_at}
 use Rattle.record_heap.specs.View.{HeapView, HoldState, IsFrame}
 use Rattle.kmem_model.specs.One.{one_step}
 use Rattle.kmem_model.specs.OneStands.{OneEnds}
 use Rattle.kmemrun.specs.Bench.{BenchView, StandsAt, IsHoldAtPlace}
-use Rattle.kmemrun.proofs.Benches.{carried, held_same, kept_at, read_is, not_used, same_frame}
+use Rattle.kmemrun.proofs.Benches.{carried, held_same, kept_at, read_is, same_frame}
 use Rattle.kmemrun.proofs.bench.Bench.read.Goals as goal
 
 pub returns-in-Some : goal.returns-in-Some

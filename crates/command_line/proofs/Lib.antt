@@ -1,0 +1,5 @@
+pub mod Building
+pub mod Plain
+pub mod Levels
+pub mod Reading
+pub mod Refused

@@ -1,0 +1,100 @@
+-- A list in which some word begins with `-` has no plan.
+use Rattle.std.proofs.Common.{◌≡◌, ◌⊎◌, ◌==◌, ◌&&◌, ℕ, Bool, true, false, not, List, [], ◌∷◌, codes, Option, Some, None, refl, ap, ◌∙◌, inl, inr}
+use Rattle.std.proofs.lemmas.Bool.{eqb-true}
+use Rattle.std.specs.Prelude.{if◌then◌else◌, option_map}
+use Rattle.std.specs.List.{list_all}
+use Rattle.std.specs.Str.{bytes_eq}
+use Rattle.clap.specs.Words.{Text}
+use Rattle.std.specs.Prelude.{nat_lt, length}
+use Rattle.std.specs.Str.Parse.{digits_value}
+use Rattle.kmem_text.specs.Texts.{is_within}
+use Rattle.kmem_text.specs.Numbers.{number_within}
+use Rattle.kmem_model.specs.declared.plan.Plan.{Plan}
+use Rattle.kmem_model.specs.declared.plan.Plan.TheVariants.{Check}
+use Rattle.kmem_model.specs.Words.{plan_of, one_of, check_of, bounded, settling}
+use Rattle.command_line.specs.CommandLine.{is_plain_word}
+
+and_false : (p q : Bool) → (p && q) ≡ false → (p ≡ false) ⊎ (q ≡ false)
+and_false true q e = inr e
+and_false false q e = inl refl
+
+true_false : true ≡ false → ⊥
+true_false e = cc
+
+not_false : (b : Bool) → not b ≡ false → b ≡ true
+not_false true e = refl
+not_false false e = absurd (true_false e)
+
+same_number : (x y : ℕ) → (x == y) ≡ true → x ≡ y
+same_number x y e = eqb-true x y e
+
+-- a word that begins with `-`
+dash : (word : Text) → is_plain_word word ≡ false → (rest : Text) × (word ≡ 45 ∷ rest)
+dash [] e = absurd (true_false e)
+dash (x ∷ xs) e = (xs, ap (λ y. y ∷ xs) (same_number x 45 (not_false (x == 45) e)))
+
+fails : (p q : Bool) (n : ℕ) → (if (p && false) && q then Some n else None) ≡ None
+fails true q n = refl
+fails false q n = refl
+
+dash_none : (least most : ℕ) (rest : Text) → number_within least most (45 ∷ rest) ≡ None
+dash_none least most rest = fails (nat_lt 0 (length (45 ∷ rest))) (is_within least most (digits_value 10 (45 ∷ rest))) (digits_value 10 (45 ∷ rest))
+
+no_number : (least most : ℕ) (word : Text) → is_plain_word word ≡ false → number_within least most word ≡ None
+no_number least most word e = let d = dash word e in ap (number_within least most) d.1 ∙ dash_none least most d.0
+
+no_chunks : (slabs : Option ℕ) (every : Option ℕ) → bounded slabs None every ≡ None
+no_chunks None every = refl
+no_chunks (Some n) every = refl
+
+no_every : (slabs chunks : Option ℕ) → settling slabs chunks None ≡ None
+no_every slabs chunks = refl
+
+no_sizes : (slabs chunks every : Option ℕ) → ((e : Option ℕ) → bounded slabs chunks e ≡ None) → settling slabs chunks every ≡ None
+no_sizes slabs chunks None h = refl
+no_sizes slabs chunks (Some e) h = h (Some e)
+
+one_none : (further : List Text) → list_all is_plain_word further ≡ false → one_of further ≡ None
+one_none [] e = absurd (true_false e)
+one_none (a ∷ []) e = refl
+one_none (a ∷ b ∷ []) e = elim (and_false (is_plain_word a) (list_all is_plain_word (b ∷ [])) e) [
+  | inl da ↦ ap (λ n. bounded n (number_within 1 64 b) None) (no_number 1 4096 a da)
+  | inr more ↦ elim (and_false (is_plain_word b) true more) [
+    | inl db ↦ ap (λ n. bounded (number_within 1 4096 a) n None) (no_number 1 64 b db) ∙ no_chunks (number_within 1 4096 a) None
+    | inr none ↦ absurd (true_false none)
+  ]
+]
+one_none (a ∷ b ∷ d ∷ []) e = elim (and_false (is_plain_word a) (list_all is_plain_word (b ∷ d ∷ [])) e) [
+  | inl da ↦ no_sizes (number_within 1 4096 a) (number_within 1 64 b) (number_within 0 100000 d) (λ every. ap (λ n. bounded n (number_within 1 64 b) every) (no_number 1 4096 a da))
+  | inr more ↦ elim (and_false (is_plain_word b) (list_all is_plain_word (d ∷ [])) more) [
+    | inl db ↦ no_sizes (number_within 1 4096 a) (number_within 1 64 b) (number_within 0 100000 d) (λ every. ap (λ n. bounded (number_within 1 4096 a) n every) (no_number 1 64 b db) ∙ no_chunks (number_within 1 4096 a) every)
+    | inr last ↦ elim (and_false (is_plain_word d) true last) [
+      | inl dd ↦ ap (settling (number_within 1 4096 a) (number_within 1 64 b)) (no_number 0 100000 d dd)
+      | inr none ↦ absurd (true_false none)
+    ]
+  ]
+]
+one_none (a ∷ b ∷ d ∷ f ∷ rest) e = refl
+
+check_none : (further : List Text) → list_all is_plain_word further ≡ false → check_of further ≡ None
+check_none [] e = refl
+check_none (a ∷ []) e = elim (and_false (is_plain_word a) true e) [
+  | inl da ↦ ap (λ n. option_map Check n) (no_number 1 16 a da)
+  | inr none ↦ absurd (true_false none)
+]
+check_none (a ∷ b ∷ rest) e = refl
+
+-- the plan of one name and the plan of the others
+no_plan : (b : Bool) (x y : Option Plan) → x ≡ None → y ≡ None → (if b then x else y) ≡ None
+no_plan true x y ex ey = ex
+no_plan false x y ex ey = ey
+
+pub dashed_none : (words : List Text) → list_all is_plain_word words ≡ false → plan_of words ≡ None
+dashed_none [] e = absurd (true_false e)
+dashed_none (w ∷ further) e = elim (and_false (is_plain_word w) (list_all is_plain_word further) e) [
+  | inl dw ↦ let d = dash w dw in ap (λ v. plan_of (v ∷ further)) d.1
+  | inr more ↦
+      let is_check = bytes_eq w (codes "check") in
+      no_plan (bytes_eq w (codes "one")) (one_of further) (if is_check then check_of further else None) (one_none further more)
+      (no_plan is_check (check_of further) None (check_none further more) refl)
+]

@@ -1,0 +1,66 @@
+-- The command line, as the parser of words has it (this project's own): a subcommand of each row of the plans, whose words are positional
+-- arguments, and no help and no version.
+use Rattle.std.specs.Prelude.{◌≡◌, ◌==◌, Bool, true, false, not, List, [], ◌∷◌, codes, Option, Some, None, if◌then◌else◌}
+use Rattle.std.specs.Str.{bytes_eq}
+use Rattle.clap.specs.Words.{App, Shape, Rule, Row, Text, new_app, new_rule, with_rule, with_subcommand, first_of}
+use Rattle.clap.specs.Simple.{on_top}
+use Rattle.clap.specs.declared.builder.command.Command.{Command}
+use Rattle.clap.specs.declared.builder.command.Command.TheViews.{out-Command}
+use Rattle.kmem_model.specs.declared.plan.Plan.{Plan}
+use Rattle.kmem_model.specs.Words.{one_of, check_of}
+
+-- an argument that has to be there
+abbrev pub needed : Text → Rule
+needed id = record (new_rule id) { required = true }
+
+-- `one S C` and `one S C EVERY`
+abbrev pub one_app : App
+one_app = with_rule (with_rule (with_rule (new_app (codes "one")) (needed (codes "slabs"))) (needed (codes "chunks"))) (new_rule (codes "every"))
+
+-- `check W`
+abbrev pub check_app : App
+check_app = with_rule (new_app (codes "check")) (needed (codes "workers"))
+
+-- a subcommand has to be there; there is no help and no version
+abbrev pub bare : Shape → Shape
+bare s = record s {
+  no_binary_name = true;
+  disable_help_flag = true;
+  disable_help_subcommand = true;
+  disable_version_flag = true;
+  subcommand_required = true;
+}
+
+abbrev pub whole_app : App
+whole_app = with_subcommand (with_subcommand (on_top bare (new_app (codes "kmemrun"))) one_app.top) check_app.top
+
+-- no argument of the command is one of its subcommands too
+abbrev pub IsLocal : Command → Type 0
+IsLocal c = (out-Command c).has_globals ≡ false
+
+-- the word doesn't begin with `-`
+abbrev pub is_plain_word : Text → Bool
+is_plain_word [] = true
+is_plain_word (x ∷ xs) = not (x == 45)
+
+-- the plan of the values that were found
+
+abbrev pub one_in : Option Text → Option Text → Option Text → Option Plan
+one_in (Some slabs) (Some chunks) None = one_of (slabs ∷ chunks ∷ [])
+one_in (Some slabs) (Some chunks) (Some every) = one_of (slabs ∷ chunks ∷ every ∷ [])
+one_in (Some slabs) None every = None
+one_in None chunks every = None
+
+abbrev pub check_in : Option Text → Option Plan
+check_in (Some workers) = check_of (workers ∷ [])
+check_in None = None
+
+abbrev pub plan_named : Text → List Row → Option Plan
+plan_named name rows =
+    if bytes_eq name (codes "one") then one_in (first_of (codes "slabs") rows) (first_of (codes "chunks") rows) (first_of (codes "every") rows)
+    else (if bytes_eq name (codes "check") then check_in (first_of (codes "workers") rows)
+    else None)
+
+abbrev pub plan_found : Option (Text × List Row) → Option Plan
+plan_found None = None
+plan_found (Some p) = plan_named p.0 p.1
