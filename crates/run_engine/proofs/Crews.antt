@@ -1,5 +1,6 @@
 -- Workers before and after they have carried out their commands.
-use Rattle.std.proofs.Common.{◌≡◌, ◌<◌, ℕ, List, [], ◌∷◌, length, map, get_or, All, refl, sym, ap, ◌∙◌, arith}
+use Rattle.std.proofs.Common.{◌≡◌, ◌<◌, ◌++◌, ℕ, List, [], ◌∷◌, length, map, take, get_or, All, refl, sym, ap, ◌∙◌, arith}
+use Rattle.std.proofs.Math.Seq.{take-append_seam}
 use Rattle.std.proofs.lemmas.List.{length-map, get_or-map, ext_get_or}
 use Rattle.std.proofs.lemmas.List.Elements.{All-nil, All-get_or, All-from_get_or}
 use Rattle.kmem_text.specs.declared.command.Line.{Line}
@@ -26,3 +27,7 @@ same_passes shared lines old (w ∷ ws) same each =
     ext_get_or 0 (map pass_of (w ∷ ws)) (map pass_of old) (length-map (w ∷ ws) pass_of ∙ (same ∙ sym (length-map old pass_of))) (λ i small.
     let here : i < length (w ∷ ws) = omega (arith, small, length-map (w ∷ ws) pass_of) in let there : i < length old = omega (arith, here, same) in
     get_or-map pass_of (w ∷ ws) i w 0 here ∙ ((each i w there).number ∙ sym (get_or-map pass_of old i w 0 there)))
+
+-- a list that was lent as its whole comes back as its whole
+pub seam : {A : Type 0} (n : ℕ) (xs ys : List A) → n ≡ length xs → take n (xs ++ ys) ≡ xs
+seam n xs ys e = ap (λ k. take k (xs ++ ys)) e ∙ take-append_seam xs ys

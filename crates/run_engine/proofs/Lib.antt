@@ -1,6 +1,6 @@
 pub mod Rows
-pub mod Counts
 pub mod Dealing
+pub mod Counts
 pub mod Crews
 pub mod Taken
 pub mod Histories

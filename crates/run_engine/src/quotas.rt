@@ -1,9 +1,8 @@
 //! How many entries and pushes each part of a run may make.
 
-ghost use Rattle.std.specs.Prelude.{◌≡◌, ◌+◌, ◌*◌, ◌<◌, ◌≤◌, length, sum, All, IfOk};
-ghost use Rattle.kmem_text.specs.Scripts.{IsWorker};
+ghost use Rattle.std.specs.Prelude.{◌≡◌, ◌≤◌, length, All, IfOk};
 ghost use Rattle.kmem_model.specs.History.{commands_of};
-ghost use Rattle.run_engine.specs.Quotas.{IsInPlan, command_counts, mover_entries, cache_quotas};
+ghost use Rattle.run_engine.specs.Quotas.{IsInPlan, command_counts, cache_quotas};
 
 use crate::plan::RunPlan;
 use kmem_text::Line;
@@ -13,10 +12,7 @@ use std::alloc::{AllocError, Global};
 pub fn command_counts(alloc: Global, lines: &[Line], workers: u32) -> Result<Vec<u32>, AllocError>
     requires few { length lines.now ≤ 100000 }
     requires workers { workers ≤ 16 }
-    ensures counts { IfOk result (λ counts. counts.items ≡ command_counts workers lines.now) }
-    ensures many { IfOk result (λ counts. length counts.items ≡ workers) }
-    ensures few { IfOk result (λ counts. All (λ n. n ≤ 100000) counts.items) }
-    ensures all { IfOk result (λ counts. sum counts.items ≤ 1600000) }
+    ensures { IfOk result (λ counts. counts.items ≡ command_counts workers lines.now) }
 {
     let mut counts = Vec::with_capacity(alloc, workers as usize)?;
     for worker in 0..workers {
@@ -45,9 +41,7 @@ pub fn cache_quotas(alloc: Global, plan: &RunPlan, counts: &[u32]) -> Result<Vec
     requires plan { IsInPlan plan.now }
     requires few { All (λ n. n ≤ 100000) counts.now }
     requires many { length counts.now ≤ 16 }
-    ensures quotas { IfOk result (λ quotas. quotas.items ≡ cache_quotas plan.now counts.now) }
-    ensures many { IfOk result (λ quotas. length quotas.items ≡ length counts.now + 2) }
-    ensures all { IfOk result (λ quotas. sum quotas.items ≤ 4000000) }
+    ensures { IfOk result (λ quotas. quotas.items ≡ cache_quotas plan.now counts.now) }
 {
     let mut quotas = Vec::with_capacity(alloc, counts.len() + 2)?;
     for count in counts {
