@@ -154,8 +154,8 @@ module _ (laws : Laws) (plan : RunPlan) (script : Plain) (shared : Shared) (crew
       record {
         legal = legal_so;
         shared =
-          shared_all shared script.lines records.entries log.entries crew.workers.items plan.workers f.done.workers f.done.passes exact_both laws.shared f.of.workers
-          (subst (λ (n : ℕ). All (λ (e : ℕ × RecordEntry). e.0 < n) records.entries) f.is.passes f.within) first_silent second_silent;
+            shared_all shared script.lines records.entries log.entries crew.workers.items plan.workers f.done.workers f.done.passes exact_both laws.shared f.of.workers
+            (subst (λ (n : ℕ). All (λ (e : ℕ × RecordEntry). e.0 < n) records.entries) f.is.passes f.within) first_silent second_silent;
       }
 
   passes_so : All (λ (e : ℕ × RecordEntry). e.0 < plan.workers) records.entries
@@ -274,14 +274,14 @@ module _ (laws : Laws) (plan : RunPlan) (script : Plain) (shared : Shared) (crew
         };
         home = f.homes.1 ∙ (sym f.is.home ∙ sym f.cache_homes.1);
         moves =
-          omega (
-            arith,
-            ap (sum_by (λ m. m.pushed + m.refused)) f.parted.moves,
-            sum_pair (λ m. m.pushed + m.refused) (log_of crew.first.place) (log_of crew.second.place),
-            all_begun,
-            f.done.first.moved.begun,
-            f.done.second.moved.begun,
-          );
+            omega (
+              arith,
+              ap (sum_by (λ m. m.pushed + m.refused)) f.parted.moves,
+              sum_pair (λ m. m.pushed + m.refused) (log_of crew.first.place) (log_of crew.second.place),
+              all_begun,
+              f.done.first.moved.begun,
+              f.done.second.moved.begun,
+            );
       }
 
   pub closed_so : IsClosed plan script (record { ran = record { records = records; cache = log; moves = parts.moves }; heap = heap; slabs = slabs; tally = tally })
@@ -293,11 +293,11 @@ module _ (laws : Laws) (plan : RunPlan) (script : Plain) (shared : Shared) (crew
         flush = f.flushed;
         addresses = f.addresses;
         stands =
-          subst (λ (n : ℕ). StandsFor (map_after (no_records n plan.workers) records.entries) f.addresses heap.heap) f.is.names_are
-          (subst (λ (w : ℕ). StandsFor (map_after (no_records shared.table.home.names w) records.entries) f.addresses heap.heap) f.is.workers f.stands);
+            subst (λ (n : ℕ). StandsFor (map_after (no_records n plan.workers) records.entries) f.addresses heap.heap) f.is.names_are
+            (subst (λ (w : ℕ). StandsFor (map_after (no_records shared.table.home.names w) records.entries) f.addresses heap.heap) f.is.workers f.stands);
         home = f.homes.0 ∙ (sym f.is.home ∙ sym f.cache_homes.0);
         size =
-          f.objects ∙ (ap (λ h. length h.cells) (sym f.is.home) ∙ (f.is.cells ∙ sym (asked_after (sizes_of plan.slabs plan.chunks 64) log.entries (frees_of f.rounds) f.state slabs.state reached_so f.flushed)));
+            f.objects ∙ (ap (λ h. length h.cells) (sym f.is.home) ∙ (f.is.cells ∙ sym (asked_after (sizes_of plan.slabs plan.chunks 64) log.entries (frees_of f.rounds) f.state slabs.state reached_so f.flushed)));
         calm = still_calm f.state slabs.state f.rounds laws.pending_along f.flushed none_pending;
         count = count_so;
         printable = record {

@@ -38,7 +38,7 @@ pub dealt_many : (shared : Shared) (counts : List ℕ) (sessions : List SessionS
 dealt_many shared counts sessions seats d = (
   sym (length-map sessions (λ (s : SessionState). s.pass)) ∙ (ap length d.passes ∙ length-fresh RecordEntry shared.table 0 counts),
   ap length d.seats_are ∙ (length-map (fresh_passes shared.cache.lock 0 (worker_entries counts)) (fresh_cache_seat shared.cache.depot)
-  ∙ (length-fresh CacheEntry shared.cache.lock 0 (worker_entries counts) ∙ length-map counts (λ n. 2 * n))),
+      ∙ (length-fresh CacheEntry shared.cache.lock 0 (worker_entries counts) ∙ length-map counts (λ n. 2 * n))),
 )
 
 pub dealt_last : (shared : Shared) (counts : List ℕ) (count : ℕ) (sessions all : List SessionState) (session : SessionState) (seats every : List CacheSeatState) (seat : CacheSeatState) →

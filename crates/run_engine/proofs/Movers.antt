@@ -57,16 +57,16 @@ waiting plan names shared in_plan is pass p t plan_is tally of is_fresh number s
         );
         tally_none = tally;
         entries =
-          omega (
-            arith,
-            half,
-            scans,
-            reap_most t.plan.reaps shared.cache.depot.places,
-            is.places,
-            is.pushes,
-            in_plan.scans.0,
-            ap {B = ℕ} (λ (s : CacheSeatState). s.pass.left) seat,
-          );
+            omega (
+              arith,
+              half,
+              scans,
+              reap_most t.plan.reaps shared.cache.depot.places,
+              is.places,
+              is.pushes,
+              in_plan.scans.0,
+              ap {B = ℕ} (λ (s : CacheSeatState). s.pass.left) seat,
+            );
         pushes = omega (arith, scans, ap {B = ℕ} (λ (s : QueueSeatState Object). s.left) place);
         small = omega (arith, scans, half, is.pushes, in_plan.scans.1);
         numbers = omega (arith, scans, half, low, ap {B = ℕ} (λ (q : MoverPlan). q.first) plan_is, in_plan.scans.1);
@@ -94,11 +94,11 @@ pub both_movers : (plan : RunPlan) (names : ℕ) (counts : List ℕ) (dealt : De
 both_movers plan names counts dealt movers others seats more places further first second in_plan is many d second_is second_none first_is first_none ends ends' sits sits' stands stands' =
     record {
       first_waits =
-        waiting plan names dealt.shared in_plan is plan.workers (first_plan plan) first first_is first_none of_first.1 fresh_first.1
-        (ap (λ (p : PassState RecordEntry TableHome). p.number) passes'.1) seats_first.1 seat_first place_first (odd_most plan.scans) (omega arith);
+          waiting plan names dealt.shared in_plan is plan.workers (first_plan plan) first first_is first_none of_first.1 fresh_first.1
+          (ap (λ (p : PassState RecordEntry TableHome). p.number) passes'.1) seats_first.1 seat_first place_first (odd_most plan.scans) (omega arith);
       second_waits =
-        waiting plan names dealt.shared in_plan is (plan.workers + 1) (second_plan plan) second second_is second_none of_second.1 fresh_second.1
-        (ap (λ (p : PassState RecordEntry TableHome). p.number) passes.1) seats_second.1 seat_second place_second (even_most plan.scans) (omega arith);
+          waiting plan names dealt.shared in_plan is (plan.workers + 1) (second_plan plan) second second_is second_none of_second.1 fresh_second.1
+          (ap (λ (p : PassState RecordEntry TableHome). p.number) passes.1) seats_second.1 seat_second place_second (even_most plan.scans) (omega arith);
       rest = record { passes = d.passes; fresh = d.fresh; of = d.of; seats_are = seat_rows'.0; seats_of = seats_first.0 };
     }
   where

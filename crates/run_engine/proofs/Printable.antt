@@ -67,8 +67,8 @@ all_tell : ValidLaw → WithinLaw → (names workers : ℕ) (m : RecordMap) (h :
 all_tell valid told names workers m [] sized legal within = tt
 all_tell valid told names workers m (e ∷ h) sized legal within = (
   ⊎_elim (λ full. subst (IsReplyWithinNames names) (sym full.0) tt)
-  (λ right. subst (IsReplyWithinNames names) (sym right) (subst (λ n. IsReplyWithinNames n (step m (worker_of e.0) e.1.command).reply) sized.names_are (tells told m (worker_of e.0) e.1.command)))
-  legal.0,
+      (λ right. subst (IsReplyWithinNames names) (sym right) (subst (λ n. IsReplyWithinNames n (step m (worker_of e.0) e.1.command).reply) sized.names_are (tells told m (worker_of e.0) e.1.command)))
+      legal.0,
   all_tell valid told names workers (map_next m e) h (next_sized valid names workers m e sized within.0) legal.1 within.1,
 )
 

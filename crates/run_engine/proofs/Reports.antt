@@ -89,9 +89,9 @@ report_so law plan script closed slabs heap settled live c w =
         fewest = w.fewest (last_map plan script closed.ran.records.entries) c.addresses c.stands;
       };
       is =
-        ap (λ n. report_on slabs.state n plan.scans closed.tally.begun (ends_of closed.tally) (ends_of settled)) (w.told (last_map plan script closed.ran.records.entries) (w.stands (last_map plan script closed.ran.records.entries) c.addresses c.stands).0 (w.stands (last_map plan script closed.ran.records.entries) c.addresses c.stands).1)
-        ∙ (ap (λ n. report_on slabs.state (live_count (last_map plan script closed.ran.records.entries)) plan.scans n (ends_of closed.tally) (ends_of settled)) c.begun
-        ∙ ap₂ (report_on slabs.state (live_count (last_map plan script closed.ran.records.entries)) plan.scans (counted_in (entries_in closed.ran.cache.entries) is_begin)) c.ends ends);
+          ap (λ n. report_on slabs.state n plan.scans closed.tally.begun (ends_of closed.tally) (ends_of settled)) (w.told (last_map plan script closed.ran.records.entries) (w.stands (last_map plan script closed.ran.records.entries) c.addresses c.stands).0 (w.stands (last_map plan script closed.ran.records.entries) c.addresses c.stands).1)
+          ∙ (ap (λ n. report_on slabs.state (live_count (last_map plan script closed.ran.records.entries)) plan.scans n (ends_of closed.tally) (ends_of settled)) c.begun
+          ∙ ap₂ (report_on slabs.state (live_count (last_map plan script closed.ran.records.entries)) plan.scans (counted_in (entries_in closed.ran.cache.entries) is_begin)) c.ends ends);
     }
   where
     freed : HasFreed (record { map = last_map plan script closed.ran.records.entries; cache = closed.slabs.state; addresses = c.addresses }) closed.slabs closed.heap w.wound_up.between w.wound_up.heap_between

@@ -52,8 +52,7 @@ found P number [] n k all e small = absurd (omega (arith, small, ap length e, le
 found P number (x ∷ xs) n k all e small =
     let ys = x ∷ xs in
     let here : 0 + k ≡ k = omega arith in
-    let inside : k < length ys = omega (arith, small, ap length e, length-map ys number, length-range_with_len 0 n) in
-    (
+    let inside : k < length ys = omega (arith, small, ap length e, length-map ys number, length-range_with_len 0 n) in (
       get_or ys k x,
       sym (get_or-map number ys k x 0 inside) ∙ (ap (λ l. get_or l k 0) e ∙ (get_or-range_with_len 0 n k 0 small ∙ here)),
       All-get_or P ys k x inside all,

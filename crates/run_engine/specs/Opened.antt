@@ -1,5 +1,5 @@
 -- A run that was opened and hasn't begun (this project's own).
-use Rattle.std.specs.Prelude.{◌≡◌, ℕ, ◌+◌, ◌*◌, ◌≤◌, List, [], All, length, map, vec_capacity}
+use Rattle.std.specs.Prelude.{◌≡◌, ℕ, ◌+◌, ◌*◌, ◌<◌, ◌≤◌, List, [], All, length, map, vec_capacity}
 use Rattle.std.specs.List.{range_with_len}
 use Rattle.kmem_text.specs.Grammar.{Plain}
 use Rattle.kmem_text.specs.Scripts.{IsScript}
@@ -54,6 +54,7 @@ pub record IsWaiting (shared : Shared) (pass : ℕ) (plan : MoverPlan) (t : Move
 pub record IsReadyCrew (plan : RunPlan) (lines : List Line) (shared : Shared) (crew : Crew) : Type 0 where
   pub workers : All (IsStarting shared lines) crew.workers.items
   pub passes : map pass_of crew.workers.items ≡ range_with_len 0 plan.workers
+  pub some : 0 < length crew.workers.items
   pub first : IsWaiting shared plan.workers (first_plan plan) crew.first
   pub second : IsWaiting shared (plan.workers + 1) (second_plan plan) crew.second
 

@@ -148,8 +148,14 @@ fn open_shared(
     let supply = Supply::create(alloc, plan.slabs)?;
     let objects = ObjectCache::create(alloc, RecordKind, supply, plan.slabs, plan.chunks, LIMIT)?;
     let buffers = plan.slabs * plan.chunks;
-    let (table, sessions, movers) =
-        RecordTable::create(alloc, objects.home(), names, buffers, counts, 2)?;
+    let (table, sessions, movers) = RecordTable::create(
+        alloc,
+        objects.home(),
+        names,
+        buffers,
+        counts,
+        2,
+    )?;
     let pushes = [64 * first_plan(plan).scans, 64 * second_plan(plan).scans];
     let (queue, places) = MoveQueue::create(alloc, objects.home(), LIMIT, &pushes)?;
     let quotas = cache_quotas(alloc, plan, counts)?;

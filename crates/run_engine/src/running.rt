@@ -51,7 +51,15 @@ fn moved<R: Threads + Wait + Sync, G: Gate>(
     ensures second { IsMoverDone shared.now (plan.now.workers + 1) (second_plan plan.now) result.1 }
 {
     let _ = plan;
-    run_movers(rt, gate, &shared.table, &shared.cache, &shared.queue, first, second)
+    run_movers(
+        rt,
+        gate,
+        &shared.table,
+        &shared.cache,
+        &shared.queue,
+        first,
+        second,
+    )
 }
 
 /// Lets all workers carry out their commands while the movers make their scans, each in a thread of its own where one can be started.

@@ -32,7 +32,9 @@ fn run_with<T: Threads + Wait + Sync, G: Gate>(
     requires plan { IsInPlan plan }
     requires short { length script.now ≤ 16777216 }
 {
-    let script = read_script(alloc, script, plan.workers).ok().ok_or("a script")?;
+    let script = read_script(alloc, script, plan.workers)
+        .ok()
+        .ok_or("a script")?;
     let run = OpenRun::create(alloc, plan, script)?;
     let mut out = MemSink::create(alloc, 65_536, 4096, &[])?;
     let ran = run.go(rt, &mut out, gate).ok().ok_or("a sink with room")?;
@@ -52,7 +54,8 @@ const PAIR: &[u8] = b"1 put a x\n2 put b y\n1 get a\n2 get b\n";
 
 const PAIR_REPLIES: &[u8] = b"=== replies\n1 1 new\n1 2 val x\n2 1 new\n2 2 val y\n=== history\n";
 
-const PAIR_REPORT: &[u8] = b"=== report\nbuffers 64\nlive 2\nslabs 1\nfree 6\nscans 1\nbegun 0\nmoves yes 0 no 0 later 0 dontneed 0 dontknow 0 gone 0\nsettle yes 0 no 0 later 0 dontneed 0 dontknow 0 gone 0\nslab 0 used 2\n";
+const PAIR_REPORT: &[u8] =
+    b"=== report\nbuffers 64\nlive 2\nslabs 1\nfree 6\nscans 1\nbegun 0\nmoves yes 0 no 0 later 0 dontneed 0 dontknow 0 gone 0\nsettle yes 0 no 0 later 0 dontneed 0 dontknow 0 gone 0\nslab 0 used 2\n";
 
 #[test]
 fn two_workers(rt: HostRuntime) -> Result<(), Fail> {
@@ -104,7 +107,8 @@ fn sparse_script(alloc: Global) -> Result<Vec<u8>, AllocError> {
     Ok(text)
 }
 
-const SPARSE_REPORT: &[u8] = b"=== report\nbuffers 64\nlive 6\nslabs 1\nfree 2\nscans 1\nbegun 3\nmoves yes 3 no 0 later 0 dontneed 0 dontknow 0 gone 0\nsettle yes 3 no 0 later 0 dontneed 0 dontknow 0 gone 0\nslab 2 used 6\n";
+const SPARSE_REPORT: &[u8] =
+    b"=== report\nbuffers 64\nlive 6\nslabs 1\nfree 2\nscans 1\nbegun 3\nmoves yes 3 no 0 later 0 dontneed 0 dontknow 0 gone 0\nsettle yes 3 no 0 later 0 dontneed 0 dontknow 0 gone 0\nslab 2 used 6\n";
 
 // The mover's scan is held until the worker has come to its first look, and the second look until the scan.
 #[test]

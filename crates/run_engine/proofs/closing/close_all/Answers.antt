@@ -69,8 +69,8 @@ returns g c =
       within = table.within;
       homes = table.home;
       jobs =
-        let none = c.close.ensures.done (places_done c.args.plan.now c.args.script.now.lines.items c.args.shared c.args.crew parts c.requires.done c.part_crew-tally.ensures.parts) in
-        omega (arith, c.close.ensures.count, ap length none);
+          let none = c.close.ensures.done (places_done c.args.plan.now c.args.script.now.lines.items c.args.shared c.args.crew parts c.requires.done c.part_crew-tally.ensures.parts) in
+          omega (arith, c.close.ensures.count, ap length none);
       state = cache.closed.state;
       rounds = cache.closed.frees;
       reached = cache.closed.reached;

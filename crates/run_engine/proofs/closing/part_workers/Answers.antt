@@ -12,13 +12,13 @@ loop-worker-preserved c =
         worker ∷ done,
         inv.parted.1 ∙ (ap (λ l. l ++ done) popped.items ∙ append_assoc left (worker ∷ []) done),
         first.items
-        ∙ (ap (λ l. l ++ worker.session ∷ []) inv.parted.2
-        ∙ (append_assoc c.args.parts.now.sessions.items (map (λ (w : Worker). w.session) (reverse done)) (worker.session ∷ [])
-        ∙ ap (λ l. c.args.parts.now.sessions.items ++ l) (sym (map-more (λ (w : Worker). w.session) worker done)))),
+            ∙ (ap (λ l. l ++ worker.session ∷ []) inv.parted.2
+            ∙ (append_assoc c.args.parts.now.sessions.items (map (λ (w : Worker). w.session) (reverse done)) (worker.session ∷ [])
+            ∙ ap (λ l. c.args.parts.now.sessions.items ++ l) (sym (map-more (λ (w : Worker). w.session) worker done)))),
         second.items
-        ∙ (ap (λ l. l ++ worker.seat ∷ []) inv.parted.3
-        ∙ (append_assoc c.args.parts.now.seats.items (map (λ (w : Worker). w.seat) (reverse done)) (worker.seat ∷ [])
-        ∙ ap (λ l. c.args.parts.now.seats.items ++ l) (sym (map-more (λ (w : Worker). w.seat) worker done)))),
+            ∙ (ap (λ l. l ++ worker.seat ∷ []) inv.parted.3
+            ∙ (append_assoc c.args.parts.now.seats.items (map (λ (w : Worker). w.seat) (reverse done)) (worker.seat ∷ [])
+            ∙ ap (λ l. c.args.parts.now.seats.items ++ l) (sym (map-more (λ (w : Worker). w.seat) worker done)))),
       );
       rest = inv.rest;
       room = (omega (arith, inv.room.0, popped.len, first.len, first.capacity), omega (arith, inv.room.1, popped.len, second.len, second.capacity));

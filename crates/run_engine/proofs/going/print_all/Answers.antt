@@ -27,7 +27,7 @@ returns-clause-whole g c =
     subst
     (λ (es : List (ℕ × RecordEntry)).
     OnOk c.write_report.result
-        (Appends (g.W.Sink.written c.args.out.now) (g.W.Sink.written c.write_report.new.out) (run_text c.args.plan.now.workers c.args.script.now.names.items es report)))
+    (Appends (g.W.Sink.written c.args.out.now) (g.W.Sink.written c.write_report.new.out) (run_text c.args.plan.now.workers c.args.script.now.names.items es report)))
     c.entries.ensures
     (whole_behind (g.W.Sink.written c.args.out.now) (g.W.Sink.written c.print_run.new.out) (g.W.Sink.written c.write_report.new.out)
     (as_lines (run_lines c.args.plan.now.workers c.args.script.now.names.items (replies_at c.entries.result.now))) report c.write_report.result

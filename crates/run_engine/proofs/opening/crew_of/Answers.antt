@@ -2,6 +2,7 @@ use Rattle.std.proofs.Common.{◌≡◌, ◌+◌, ◌<◌, ◌++◌, ◌∷◌, 
 use Rattle.std.specs.List.{range_with_len}
 use Rattle.std.proofs.lemmas.List.{length-append}
 use Rattle.run_engine.proofs.Movers.{both_movers, dealt_some}
+use Rattle.run_engine.proofs.Parting.{many_workers}
 use Rattle.run_engine.proofs.opening.crew_of.Goals as goal
 
 pub last_mover-second-requires : goal.last_mover-second-requires
@@ -43,6 +44,7 @@ returns-clause-crew c =
     record {
       workers = c.in_ok-workers.ensures.workers;
       passes = c.in_ok-workers.ensures.passes ∙ ap (range_with_len 0) c.requires.many;
+      some = omega (arith, many_workers c.args.plan.now.workers c.in_ok-workers.workers.items (c.in_ok-workers.ensures.passes ∙ ap (range_with_len 0) c.requires.many), c.requires.plan.workers.0);
       first = both.first_waits;
       second = both.second_waits;
     }
