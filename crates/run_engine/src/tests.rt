@@ -16,6 +16,7 @@ mod gates;
 use gates::{Hold, Meeting, Open};
 
 // What a run hands out and prints.
+#[derive(Drop)]
 struct Done {
     ran: Ran,
     text: Vec<u8>,

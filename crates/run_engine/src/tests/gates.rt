@@ -18,6 +18,7 @@ impl Gate for Open {
 pub type Step = (u32, u32);
 
 /// Holds who comes to a step until another step was called.
+#[derive(Drop)]
 pub struct Hold {
     at: Step,
     until: Step,
@@ -56,6 +57,7 @@ impl Hold {
 }
 
 /// Two such holds.
+#[derive(Drop)]
 pub struct Meeting {
     pub one: Hold,
     pub other: Hold,
