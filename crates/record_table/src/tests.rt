@@ -17,6 +17,7 @@ use std::sync::Wait;
 
 mod moves;
 mod rows;
+mod threads;
 
 // A worker's session, with its seat of the cache.
 #[derive(Drop)]
