@@ -9,3 +9,4 @@ pub mod Runs
 pub mod Asks
 pub mod Openings
 pub mod Closing
+pub mod Bench

@@ -19,3 +19,6 @@ pub use log::RecordLog;
 pub use mover::Mover;
 pub use session::Session;
 pub use table::RecordTable;
+
+#[cfg(test)]
+mod tests;
