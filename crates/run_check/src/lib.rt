@@ -16,9 +16,8 @@ mod taking;
 mod told;
 mod walking;
 
-pub use checking::{check, read_input};
+pub use checking::check;
 pub use fault::Fault;
-pub use judging::script_in;
 
 #[cfg(test)]
 mod tests;
