@@ -1,16 +1,17 @@
 -- What a run of the program does to its streams, and when it ends how (this project's own rule).
-use Rattle.std.specs.Prelude.{◌≡◌, ◌≢◌, ◌<◌, ◌≤◌, ◌↔◌, ◌⊎◌, ℕ, List, Option, Some, IsNone, IfSome}
+use Rattle.std.specs.Prelude.{◌≡◌, ◌≢◌, ◌<◌, ◌≤◌, ◌↔◌, ◌⊎◌, ℕ, List, Option, Some, None, IsNone, IsSome, IfSome}
 use Rattle.std.specs.Io.KnownBytes.{Appends, Keeps, IsAtEnd}
 use Rattle.kmem_io.specs.Streams.{AppendsFront}
 use Rattle.kmem_text.specs.declared.spelling.LineFault.{LineFault}
-use Rattle.kmem_model.specs.declared.plan.Plan.{Plan}
+use Rattle.command_line.specs.declared.program.Program.{Program}
+use Rattle.run_engine.specs.declared.ran.Ran.{Ran}
 use Rattle.kmemrun.specs.declared.status.Status.{Status}
 use Rattle.kmemrun.specs.declared.status.Status.TheVariants as status
 use Rattle.kmemrun.specs.declared.status.Ending.{Ending}
 use Rattle.kmemrun.specs.declared.status.Ending.TheVariants.{Fine, Usage, Failed}
 use Rattle.run_check.specs.declared.fault.Fault.{Fault}
 use Rattle.run_check.specs.declared.fault.Fault.TheVariants.{BadScript, Read, Write, Limit, NoMemory, Illegal}
-use Rattle.kmemrun.specs.Answers.{Writes, IsFaultOf, IsPlanText, bad_line, IsCheck}
+use Rattle.kmemrun.specs.Answers.{Writes, IsTextDue, IsFaultOf, IsPlanText, bad_line, IsCheck, IsRunning, IsHandedOut}
 use Rattle.kmemrun.specs.Endings.{ending_status, ending_line}
 
 -- a stream before and after a run: what the input had left, or what was written, where the stream tells it, and how often it had failed
@@ -29,7 +30,7 @@ abbrev pub IsDueEnding : Ending → Ending → Type 0
 IsDueEnding ended due = (ended ≡ due) ⊎ ((ended ≡ Failed NoMemory) ⊎ (ended ≡ Failed Read))
 
 -- how a plan ends, what it reads and what it writes
-pub record Ends (plan : Option Plan) (input out : Stream) (ended : Ending) : Type 0 where
+pub record Ends (plan : Option Program) (input out : Stream) (ended : Ending) : Type 0 where
   -- at Fine exactly the text for the bytes that were left is written, which is one of a history, and all of them are read
   pub text : ended ≡ Fine → IfSome input.known (λ bytes. Writes plan bytes (λ text.
       Appends out.known out.known_after text × IsPlanText plan bytes text))
@@ -48,11 +49,17 @@ pub record Ends (plan : Option Plan) (input out : Stream) (ended : Ending) : Typ
   pub counted_illegal : (line : ℕ) → ended ≡ Failed (Illegal line) → 1 ≤ line
   pub write_fault : (ended ≡ Failed Write) ↔ (out.faults < out.faults_after)
   pub due : IfSome input.known (λ bytes. (due : Fault) → IsFaultOf plan bytes due → IsDueEnding ended (Failed due))
-  pub fine : IfSome input.known (λ bytes. Writes plan bytes (λ text. Unit {0}) → (ended ≡ Failed Write) ⊎ IsDueEnding ended Fine)
+  pub fine : IfSome input.known (λ bytes. IsTextDue plan bytes → (ended ≡ Failed Write) ⊎ IsDueEnding ended Fine)
   -- what they leave: a front of the text after a write fault, and else nothing
   pub front : ended ≡ Failed Write → IfSome input.known (λ bytes.
       Writes plan bytes (λ text. AppendsFront out.known out.known_after text))
   pub untouched : ended ≢ Fine → ended ≢ Failed Write → Keeps out.known out.known_after
+
+-- what is handed out: the histories of a run on threads, exactly where one ended Fine
+pub record HandsOut (plan : Option Program) (input out : Stream) (ended : Ending) (ran : Option Ran) : Type 0 where
+  pub due : (ended ≡ Fine) × IsRunning plan → IsSome ran
+  pub just : IsSome ran → (ended ≡ Fine) × IsRunning plan
+  pub what : IfSome ran (λ r. IfSome input.known (λ bytes. IsHandedOut plan bytes r out.known out.known_after))
 
 -- a front of the ending's line was told; the whole, where standard error did not fail
 pub record Tells (err : Stream) (ended : Ending) : Type 0 where
@@ -60,21 +67,23 @@ pub record Tells (err : Stream) (ended : Ending) : Type 0 where
   pub whole : err.faults_after ≡ err.faults → Appends err.known err.known_after (ending_line ended)
 
 -- the plan was carried out, and its ending told, which has this status
-pub record IsRun (plan : Option Plan) (input out err : Stream) (answered : Status) : Type 0 where
+pub record IsRun (plan : Option Program) (input out err : Stream) (answered : Status) (ran : Option Ran) : Type 0 where
   pub ended : Ending
   pub answer : answered ≡ ending_status ended
   pub ends : Ends plan input out ended
+  pub hands : HandsOut plan input out ended ran
   pub tells : Tells err ended
 
 -- memory was wanting before anything was read or written
-pub record IsWanting (input out err : Stream) (answered : Status) : Type 0 where
+pub record IsWanting (input out err : Stream) (answered : Status) (ran : Option Ran) : Type 0 where
+  pub none : ran ≡ None
   pub answer : answered ≡ status.NoMemory
   pub unread : (input.known_after ≡ input.known) × (input.faults_after ≡ input.faults)
   pub unwritten : (out.known_after ≡ out.known) × (out.faults_after ≡ out.faults)
   pub tells : Tells err (Failed NoMemory)
 
-abbrev pub IsRunOrWanting : Option Plan → Stream → Stream → Stream → Status → Type 0
-IsRunOrWanting plan input out err answered = IsRun plan input out err answered ⊎ IsWanting input out err answered
+abbrev pub IsRunOrWanting : Option Program → Stream → Stream → Stream → Status → Option Ran → Type 0
+IsRunOrWanting plan input out err answered ran = IsRun plan input out err answered ran ⊎ IsWanting input out err answered ran
 
 -- what keeps a run from its words: they aren't text, or memory is wanting
 abbrev pub IsRefusal : Ending → Type 0

@@ -3,7 +3,7 @@
 
 ghost use Rattle.std.specs.Prelude.{◌≡◌, map, string_bytes, IfOk, IfErr};
 ghost use Rattle.kmem_io.specs.Streams.{CanRise};
-ghost use Rattle.kmem_model.specs.Words.{plan_of};
+ghost use Rattle.command_line.specs.Programs.{program_of};
 ghost use Rattle.kmemrun.specs.Runs.{stream, IsRunOrWanting, IsRefusal};
 
 mod bench;
@@ -13,7 +13,7 @@ mod status;
 mod top;
 
 use kmem_io::{Gate, Sink, Source, StdSink, StdSource};
-use status::{Ending, Status};
+use status::{Ended, Ending};
 use std::alloc::{AllocError, Global};
 use std::process::ExitCode;
 use std::rt::Env;
@@ -34,7 +34,7 @@ fn main(rt: HostRuntime) -> ExitCode {
     let mut out = StdSink::create(rt.stdout());
     let mut err = StdSink::create(rt.stderr());
     let status = match arguments(&rt, rt.alloc()) {
-        Ok(words) => run(&rt, rt.alloc(), &words, &mut input, &mut out, &mut err),
+        Ok(words) => run(&rt, rt.alloc(), &words, &mut input, &mut out, &mut err).status,
         Err(ending) => answer(ending, &mut err),
     };
     status.exit_code()
@@ -59,17 +59,20 @@ fn run<T: Wait + Threads + Sync, R: Source, W: Sink, E: Sink>(
     input: &mut R,
     out: &mut W,
     err: &mut E,
-) -> Status
+) -> Ended
     requires input { CanRise (R.faults input.old) }
     requires out { CanRise (W.faults out.old) }
     requires err { CanRise (E.faults err.old) }
-    ensures { IsRunOrWanting (plan_of (map string_bytes given.now))
+    ensures { IsRunOrWanting (program_of (map string_bytes given.now))
         (stream R.left R.faults input.old input.new) (stream W.written W.faults out.old out.new)
-        (stream E.written E.faults err.old err.new) result }
+        (stream E.written E.faults err.old err.new) result.status result.ran }
 {
     match as_words(alloc, given) {
-        Ok(words) => top(rt, alloc, &words, input, out, err, &Open).status,
-        Err(error) => answer(Ending::from(error), err),
+        Ok(words) => top(rt, alloc, &words, input, out, err, &Open),
+        Err(error) => Ended {
+            status: answer(Ending::from(error), err),
+            ran: None,
+        },
     }
 }
 

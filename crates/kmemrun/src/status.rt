@@ -9,6 +9,7 @@ ghost use Rattle.kmemrun.specs.Endings.{status_code, ending_status, ending_line}
 use crate::fault::{fault_status, fill, write_fault_line};
 use kmem_io::{Sink, write_all};
 use run_check::Fault;
+use run_engine::Ran;
 use std::alloc::AllocError;
 use std::process::ExitCode;
 
@@ -105,8 +106,9 @@ impl From<AllocError> for Ending {
     }
 }
 
-/// What a call of `top` hands out.
-#[derive(Clone, Copy, Debug, PartialEq, Eq)]
+/// What a call of `top` hands out: its status, and the histories of a run on threads that ended with status 0.
+#[derive(Drop)]
 pub struct Ended {
     pub status: Status,
+    pub ran: Option<Ran>,
 }

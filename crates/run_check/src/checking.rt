@@ -51,8 +51,8 @@ pub fn check<R: Source, W: Sink>(
     }
 }
 
-/// All bytes of the input.
-fn read_input<R: Source>(alloc: Global, input: &mut R) -> Result<Vec<u8>, Fault>
+/// All bytes of an input of at most 16 MiB.
+pub fn read_input<R: Source>(alloc: Global, input: &mut R) -> Result<Vec<u8>, Fault>
     requires { CanRise (R.faults input.old) }
     ensures bytes { IfOk result (λ bytes. Consumes (R.left input.old) (R.left input.new) bytes.items) }
     ensures end { OnOk result (IsAtEnd (R.left input.new)) }

@@ -26,8 +26,8 @@ pub fn judge(alloc: Global, workers: u32, bytes: &[u8]) -> Result<(), Fault>
     check_run(alloc, workers, &script, &mut lines)
 }
 
-/// The script that these bytes spell.
-fn script_in(alloc: Global, workers: u32, bytes: &[u8]) -> Result<Script, Fault>
+/// The script that these bytes spell, for workers 1 to `workers`. n log n in their number.
+pub fn script_in(alloc: Global, workers: u32, bytes: &[u8]) -> Result<Script, Fault>
     requires workers { workers ≤ 16 }
     requires size { length bytes.now ≤ 16777216 }
     ensures script { IfOk result (λ script. script_of workers bytes.now ≡ plain script) }

@@ -16,8 +16,9 @@ mod taking;
 mod told;
 mod walking;
 
-pub use checking::check;
+pub use checking::{check, read_input};
 pub use fault::Fault;
+pub use judging::script_in;
 
 #[cfg(test)]
 mod tests;
