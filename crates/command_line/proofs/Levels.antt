@@ -10,9 +10,9 @@ use Rattle.clap.specs.Faults.{walk_fault, step_fault, settle_fault, defaults_fau
 use Rattle.clap.specs.declared.error.kind.ErrorKind.TheVariants.{UnknownArgument, MissingRequiredArgument}
 use Rattle.clap.specs.declared.error.kind.ErrorKind.{ErrorKind}
 use Rattle.clap.proofs.WalkLemmas.{both}
-use Rattle.command_line.specs.CommandLine.{whole_app, plan_named, plan_found, is_plain_word}
+use Rattle.command_line.specs.CommandLine.{whole_app, program_named, program_found, is_plain_word}
 use Rattle.command_line.proofs.Plain.{at, takes_word, walks_word, stray_word}
-use Rattle.kmem_model.specs.Words.{plan_of}
+use Rattle.command_line.specs.Programs.{program_of}
 
 -- Words that positional arguments take, one each
 
@@ -129,23 +129,23 @@ sub_fault name s is further = is.met further
 sub_rows : (name : Text) (s : Shape) → IsSubcommand name s → (further : List Text) → subcommand_of whole_app (name ∷ further) ≡ Some (name, rows_after s.rules [] further)
 sub_rows name s is further = is.words further ∙ (ap (λ (w : Walk). entered (built whole_app) w.stopped) (walk_stopped [] names nothing_held name [] further) ∙ is.rows further)
 
--- What the parse of the words comes to: the plan is that of the values that were found, or the parse is refused and there is none
+-- What the parse of the words comes to: the program is that of the values that were found, or the parse is refused and there is none
 
 abbrev pub IsRead : List Text → Type 0
-IsRead words = ((fault_of whole_app words ≡ []) × (plan_found (subcommand_of whole_app words) ≡ plan_of words))
-    ⊎ ((kind : ErrorKind) × (kinds : Kinds) × (fault_of whole_app words ≡ kind ∷ kinds) × (plan_of words ≡ None))
+IsRead words = ((fault_of whole_app words ≡ []) × (program_found (subcommand_of whole_app words) ≡ program_of words))
+    ⊎ ((kind : ErrorKind) × (kinds : Kinds) × (fault_of whole_app words ≡ kind ∷ kinds) × (program_of words ≡ None))
 
 -- as many words as the subcommand takes
-pub read_taken : (name : Text) (s : Shape) → IsSubcommand name s → (words : List Text) → list_all is_plain_word words ≡ true → Takes s nothing_held 1 words → level_of s [] (end_of s words) ≡ [] → plan_named name (finished s.rules (end_of s words).held) ≡ plan_of (name ∷ words) → IsRead (name ∷ words)
+pub read_taken : (name : Text) (s : Shape) → IsSubcommand name s → (words : List Text) → list_all is_plain_word words ≡ true → Takes s nothing_held 1 words → level_of s [] (end_of s words) ≡ [] → program_named name (finished s.rules (end_of s words).held) ≡ program_of (name ∷ words) → IsRead (name ∷ words)
 read_taken name s is words e t none plan = inl (
   sub_fault name s is words ∙ (level_taken s words e t ∙ none),
-  ap plan_found (sub_rows name s is words) ∙ (ap (λ (w : Walk). plan_named name (finished s.rules w.held)) (walk_end s nothing_held 1 words e t) ∙ plan),
+  ap program_found (sub_rows name s is words) ∙ (ap (λ (w : Walk). program_named name (finished s.rules w.held)) (walk_end s nothing_held 1 words e t) ∙ plan),
 )
 
 -- fewer
-pub read_missing : (name : Text) (s : Shape) → IsSubcommand name s → (words : List Text) → list_all is_plain_word words ≡ true → Takes s nothing_held 1 words → level_of s [] (end_of s words) ≡ MissingRequiredArgument ∷ [] → plan_of (name ∷ words) ≡ None → IsRead (name ∷ words)
+pub read_missing : (name : Text) (s : Shape) → IsSubcommand name s → (words : List Text) → list_all is_plain_word words ≡ true → Takes s nothing_held 1 words → level_of s [] (end_of s words) ≡ MissingRequiredArgument ∷ [] → program_of (name ∷ words) ≡ None → IsRead (name ∷ words)
 read_missing name s is words e t missing plan = inr (MissingRequiredArgument, [], sub_fault name s is words ∙ (level_taken s words e t ∙ missing), plan)
 
 -- more
-pub read_stray : (name : Text) (s : Shape) → IsSubcommand name s → (words : List Text) (w : Text) (rest : List Text) → list_all is_plain_word (words ++ w ∷ rest) ≡ true → Takes s nothing_held 1 words → step_fault s (place_after 1 words) (held_by s nothing_held 1 words) value ≡ UnknownArgument ∷ [] → plan_of (name ∷ (words ++ w ∷ rest)) ≡ None → IsRead (name ∷ (words ++ w ∷ rest))
+pub read_stray : (name : Text) (s : Shape) → IsSubcommand name s → (words : List Text) (w : Text) (rest : List Text) → list_all is_plain_word (words ++ w ∷ rest) ≡ true → Takes s nothing_held 1 words → step_fault s (place_after 1 words) (held_by s nothing_held 1 words) value ≡ UnknownArgument ∷ [] → program_of (name ∷ (words ++ w ∷ rest)) ≡ None → IsRead (name ∷ (words ++ w ∷ rest))
 read_stray name s is words w rest e t found plan = inr (UnknownArgument, [], sub_fault name s is (words ++ w ∷ rest) ∙ level_stray s words w rest e t found, plan)

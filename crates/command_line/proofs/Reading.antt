@@ -13,9 +13,11 @@ use Rattle.clap.specs.declared.error.kind.ErrorKind.{ErrorKind}
 use Rattle.clap.specs.declared.error.kind.ErrorKind.TheVariants.{MissingSubcommand, UnknownArgument, InvalidSubcommand}
 use Rattle.clap.proofs.WalkLemmas.{both}
 use Rattle.clap.proofs.OnLiterals.{clap_on_literals}
-use Rattle.command_line.specs.CommandLine.{whole_app, one_app, check_app, plan_found, is_plain_word}
+use Rattle.command_line.specs.CommandLine.{whole_app, one_app, check_app, run_app, program_found, is_plain_word}
 use Rattle.command_line.proofs.Plain.{plain_met, plain_other}
 use Rattle.command_line.proofs.Levels.{IsSubcommand, IsRead, below_top, names, whole_fault, read_taken, read_missing, read_stray}
+use Rattle.command_line.specs.declared.program.Program.TheVariants.{Plain}
+use Rattle.command_line.specs.Programs.{program_of, run_of}
 use Rattle.kmem_model.specs.Words.{plan_of}
 
 pub free : is_simple_and_free whole_app ≡ true
@@ -51,6 +53,23 @@ unfolding clap_on_literals
 read_check [] e = read_missing (codes "check") check_shape is_check [] e tt refl refl
 read_check (a ∷ []) e = read_taken (codes "check") check_shape is_check (a ∷ []) e (refl, (refl, tt)) refl refl
 read_check (a ∷ b ∷ rest) e = read_stray (codes "check") check_shape is_check (a ∷ []) b rest e (refl, (refl, tt)) refl refl
+
+abbrev run_shape : Shape
+run_shape = below_top run_app.top
+
+is_run : IsSubcommand (codes "run") run_shape
+unfolding clap_on_literals
+is_run = record { met = λ further. refl; below = λ further. refl; words = λ further. refl; rows = λ further. refl }
+
+read_run : (further : List Text) → list_all is_plain_word further ≡ true → IsRead (codes "run" ∷ further)
+unfolding clap_on_literals
+read_run [] e = read_missing (codes "run") run_shape is_run [] e tt refl refl
+read_run (a ∷ []) e = read_missing (codes "run") run_shape is_run (a ∷ []) e (refl, (refl, tt)) refl refl
+read_run (a ∷ b ∷ []) e = read_missing (codes "run") run_shape is_run (a ∷ b ∷ []) e (refl, (refl, (refl, (refl, tt)))) refl refl
+read_run (a ∷ b ∷ d ∷ []) e = read_missing (codes "run") run_shape is_run (a ∷ b ∷ d ∷ []) e (refl, (refl, (refl, (refl, (refl, (refl, tt)))))) refl refl
+read_run (a ∷ b ∷ d ∷ f ∷ []) e = read_taken (codes "run") run_shape is_run (a ∷ b ∷ d ∷ f ∷ []) e (refl, (refl, (refl, (refl, (refl, (refl, (refl, (refl, tt)))))))) refl refl
+read_run (a ∷ b ∷ d ∷ f ∷ g ∷ []) e = read_taken (codes "run") run_shape is_run (a ∷ b ∷ d ∷ f ∷ g ∷ []) e (refl, (refl, (refl, (refl, (refl, (refl, (refl, (refl, (refl, (refl, tt)))))))))) refl refl
+read_run (a ∷ b ∷ d ∷ f ∷ g ∷ h ∷ rest) e = read_stray (codes "run") run_shape is_run (a ∷ b ∷ d ∷ f ∷ g ∷ []) h rest e (refl, (refl, (refl, (refl, (refl, (refl, (refl, (refl, (refl, (refl, tt)))))))))) refl refl
 
 -- A first word that names no subcommand
 
@@ -110,20 +129,23 @@ by_name name w further is other = elim (bool_cases (bytes_eq w name)) [
 
 -- the names of the subcommands, in their order
 abbrev sub_names : List Text
-sub_names = codes "one" ∷ codes "check" ∷ []
+sub_names = codes "one" ∷ codes "check" ∷ codes "run" ∷ []
 
 strange_plan : (w : Text) (further : List Text) → bytes_eq w (codes "one") ≡ false → bytes_eq w (codes "check") ≡ false → plan_of (w ∷ further) ≡ None
 strange_plan w further e1 e2 = cond-false (bytes_eq w (codes "one")) _ _ e1 ∙ cond-false (bytes_eq w (codes "check")) _ _ e2
+
+strange_program : (w : Text) (further : List Text) → bytes_eq w (codes "one") ≡ false → bytes_eq w (codes "check") ≡ false → bytes_eq w (codes "run") ≡ false → program_of (w ∷ further) ≡ None
+strange_program w further e1 e2 e3 = cond-false (bytes_eq w (codes "run")) (run_of further) (option_map Plain (plan_of (w ∷ further))) e3 ∙ ap (option_map Plain) (strange_plan w further e1 e2)
 
 named_names : named sub_names ≡ names
 unfolding clap_on_literals
 named_names = refl
 
-read_strange : (w : Text) (further : List Text) → is_plain_word w ≡ true → bytes_eq w (codes "one") ≡ false → bytes_eq w (codes "check") ≡ false → IsRead (w ∷ further)
-read_strange w further e e1 e2 =
-    let none = none_met sub_names w (turned w (codes "one") e1, (turned w (codes "check") e2, tt)) in
+read_strange : (w : Text) (further : List Text) → is_plain_word w ≡ true → bytes_eq w (codes "one") ≡ false → bytes_eq w (codes "check") ≡ false → bytes_eq w (codes "run") ≡ false → IsRead (w ∷ further)
+read_strange w further e e1 e2 e3 =
+    let none = none_met sub_names w (turned w (codes "one") e1, (turned w (codes "check") e2, (turned w (codes "run") e3, tt))) in
     let met = subst (λ (ns : Names). subcommand_met ns idle w ≡ None) named_names (ap (option_map (λ (p : Text × List Text). p.0)) none) in
-    inr (UnknownArgument, InvalidSubcommand ∷ [], strange_fault w further e met, strange_plan w further e1 e2)
+    inr (UnknownArgument, InvalidSubcommand ∷ [], strange_fault w further e met, strange_program w further e1 e2 e3)
 
 pub all_read : (words : List Text) → list_all is_plain_word words ≡ true → IsRead words
 all_read [] e = inr (MissingSubcommand, [], none_fault, refl)
@@ -131,18 +153,19 @@ all_read (w ∷ further) e =
     let p = both (is_plain_word w) _ e in
     by_name (codes "one") w further (read_one further p.1) (λ e1.
     by_name (codes "check") w further (read_check further p.1) (λ e2.
-    read_strange w further p.0 e1 e2))
+    by_name (codes "run") w further (read_run further p.1) (λ e3.
+    read_strange w further p.0 e1 e2 e3)))
 
 -- a parse that is taken
-pub taken_plan : (words : List Text) → list_all is_plain_word words ≡ true → fault_of whole_app words ≡ [] → plan_found (subcommand_of whole_app words) ≡ plan_of words
-taken_plan words e none = elim (all_read words e) [
+pub taken_program : (words : List Text) → list_all is_plain_word words ≡ true → fault_of whole_app words ≡ [] → program_found (subcommand_of whole_app words) ≡ program_of words
+taken_program words e none = elim (all_read words e) [
   | inl read ↦ read.1
   | inr refused ↦ let bad : [] ≡ refused.0 ∷ refused.1 = sym none ∙ refused.2 in absurd cc
 ]
 
 -- and one that is refused
-pub refused_plan : (words : List Text) → list_all is_plain_word words ≡ true → (kind : ErrorKind) → IsAmong kind (fault_of whole_app words) → plan_of words ≡ None
-refused_plan words e kind among = elim (all_read words e) [
+pub refused_program : (words : List Text) → list_all is_plain_word words ≡ true → (kind : ErrorKind) → IsAmong kind (fault_of whole_app words) → program_of words ≡ None
+refused_program words e kind among = elim (all_read words e) [
   | inl read ↦ absurd (subst (IsAmong kind) read.0 among)
   | inr refused ↦ refused.3
 ]

@@ -1,5 +1,5 @@
--- A list in which some word begins with `-` has no plan.
-use Rattle.std.proofs.Common.{◌≡◌, ◌⊎◌, ◌==◌, ◌&&◌, ℕ, Bool, true, false, not, List, [], ◌∷◌, codes, Option, Some, None, refl, ap, ◌∙◌, inl, inr}
+-- A list in which some word begins with `-` has no program.
+use Rattle.std.proofs.Common.{◌≡◌, ◌⊎◌, ◌==◌, ◌&&◌, ℕ, Bool, true, false, not, List, [], ◌∷◌, ◌++◌, codes, Option, Some, None, refl, ap, ◌∙◌, inl, inr}
 use Rattle.std.proofs.lemmas.Bool.{eqb-true}
 use Rattle.std.specs.Prelude.{if◌then◌else◌, option_map}
 use Rattle.std.specs.List.{list_all}
@@ -9,9 +9,11 @@ use Rattle.std.specs.Prelude.{nat_lt, length}
 use Rattle.std.specs.Str.Parse.{digits_value}
 use Rattle.kmem_text.specs.Texts.{is_within}
 use Rattle.kmem_text.specs.Numbers.{number_within}
-use Rattle.kmem_model.specs.declared.plan.Plan.{Plan}
 use Rattle.kmem_model.specs.declared.plan.Plan.TheVariants.{Check}
 use Rattle.kmem_model.specs.Words.{plan_of, one_of, check_of, bounded, settling}
+use Rattle.command_line.specs.declared.program.Program.{Program}
+use Rattle.command_line.specs.declared.program.Program.TheVariants.{Plain}
+use Rattle.command_line.specs.Programs.{program_of, run_of, running, running_by}
 use Rattle.command_line.specs.CommandLine.{is_plain_word}
 
 and_false : (p q : Bool) → (p && q) ≡ false → (p ≡ false) ⊎ (q ≡ false)
@@ -84,17 +86,95 @@ check_none (a ∷ []) e = elim (and_false (is_plain_word a) true e) [
 ]
 check_none (a ∷ b ∷ rest) e = refl
 
--- the plan of one name and the plan of the others
-no_plan : (b : Bool) (x y : Option Plan) → x ≡ None → y ≡ None → (if b then x else y) ≡ None
-no_plan true x y ex ey = ex
-no_plan false x y ex ey = ey
+-- what one name asks for and what the others do
+neither : {A : Type 0} (b : Bool) (x y : Option A) → x ≡ None → y ≡ None → (if b then x else y) ≡ None
+neither true x y ex ey = ex
+neither false x y ex ey = ey
 
-pub dashed_none : (words : List Text) → list_all is_plain_word words ≡ false → plan_of words ≡ None
-dashed_none [] e = absurd (true_false e)
-dashed_none (w ∷ further) e = elim (and_false (is_plain_word w) (list_all is_plain_word further) e) [
+plan_none : (words : List Text) → list_all is_plain_word words ≡ false → plan_of words ≡ None
+plan_none [] e = absurd (true_false e)
+plan_none (w ∷ further) e = elim (and_false (is_plain_word w) (list_all is_plain_word further) e) [
   | inl dw ↦ let d = dash w dw in ap (λ v. plan_of (v ∷ further)) d.1
   | inr more ↦
       let is_check = bytes_eq w (codes "check") in
-      no_plan (bytes_eq w (codes "one")) (one_of further) (if is_check then check_of further else None) (one_none further more)
-      (no_plan is_check (check_of further) None (check_none further more) refl)
+      neither (bytes_eq w (codes "one")) (one_of further) (if is_check then check_of further else None) (one_none further more)
+      (neither is_check (check_of further) None (check_none further more) refl)
+]
+
+-- one of the numbers of a run isn't there
+
+no_run_chunks : (slabs workers scans : Option ℕ) (desperate : Bool) → running slabs None workers scans desperate ≡ None
+no_run_chunks None workers scans desperate = refl
+no_run_chunks (Some s) workers scans desperate = refl
+
+no_run_workers : (slabs chunks scans : Option ℕ) (desperate : Bool) → running slabs chunks None scans desperate ≡ None
+no_run_workers None chunks scans desperate = refl
+no_run_workers (Some s) None scans desperate = refl
+no_run_workers (Some s) (Some c) scans desperate = refl
+
+no_run_scans : (slabs chunks workers : Option ℕ) (desperate : Bool) → running slabs chunks workers None desperate ≡ None
+no_run_scans None chunks workers desperate = refl
+no_run_scans (Some s) None workers desperate = refl
+no_run_scans (Some s) (Some c) None desperate = refl
+no_run_scans (Some s) (Some c) (Some w) desperate = refl
+
+numbers_none : (a b d f : Text) (desperate : Bool) → list_all is_plain_word (a ∷ b ∷ d ∷ f ∷ []) ≡ false → running_by a b d f desperate ≡ None
+numbers_none a b d f desperate e =
+    let slabs = number_within 1 4096 a in
+    let chunks = number_within 1 64 b in
+    let workers = number_within 1 16 d in
+    let scans = number_within 1 1000 f in
+    elim (and_false (is_plain_word a) (list_all is_plain_word (b ∷ d ∷ f ∷ [])) e) [
+      | inl da ↦ ap (λ n. running n chunks workers scans desperate) (no_number 1 4096 a da)
+      | inr more ↦ elim (and_false (is_plain_word b) (list_all is_plain_word (d ∷ f ∷ [])) more) [
+        | inl db ↦ ap (λ n. running slabs n workers scans desperate) (no_number 1 64 b db) ∙ no_run_chunks slabs workers scans desperate
+        | inr most ↦ elim (and_false (is_plain_word d) (list_all is_plain_word (f ∷ [])) most) [
+          | inl dd ↦ ap (λ n. running slabs chunks n scans desperate) (no_number 1 16 d dd) ∙ no_run_workers slabs chunks scans desperate
+          | inr last ↦ elim (and_false (is_plain_word f) true last) [
+            | inl df ↦ ap (λ n. running slabs chunks workers n desperate) (no_number 1 1000 f df) ∙ no_run_scans slabs chunks workers desperate
+            | inr none ↦ absurd (true_false none)
+          ]
+        ]
+      ]
+    ]
+
+and_nothing : (p : Bool) → (p && false) ≡ false
+and_nothing true = refl
+and_nothing false = refl
+
+-- the word that isn't plain is the last one or one before it
+before_last : (words : List Text) (last : Text) → list_all is_plain_word (words ++ last ∷ []) ≡ false → (list_all is_plain_word words ≡ false) ⊎ (is_plain_word last ≡ false)
+before_last [] last e = elim (and_false (is_plain_word last) true e) [
+  | inl dashed ↦ inr dashed
+  | inr none ↦ absurd (true_false none)
+]
+before_last (w ∷ ws) last e = elim (and_false (is_plain_word w) (list_all is_plain_word (ws ++ last ∷ [])) e) [
+  | inl dw ↦ inl (ap (λ p. p && list_all is_plain_word ws) dw)
+  | inr more ↦ elim (before_last ws last more) [
+    | inl dashed ↦ inl (ap (λ p. is_plain_word w && p) dashed ∙ and_nothing (is_plain_word w))
+    | inr dashed ↦ inr dashed
+  ]
+]
+
+no_last : (last : Text) (asked : Option Program) → is_plain_word last ≡ false → (if bytes_eq last (codes "desperate") then asked else None) ≡ None
+no_last last asked e = let d = dash last e in ap (λ v. if bytes_eq v (codes "desperate") then asked else None) d.1
+
+run_none : (further : List Text) → list_all is_plain_word further ≡ false → run_of further ≡ None
+run_none [] e = refl
+run_none (a ∷ []) e = refl
+run_none (a ∷ b ∷ []) e = refl
+run_none (a ∷ b ∷ d ∷ []) e = refl
+run_none (a ∷ b ∷ d ∷ f ∷ []) e = numbers_none a b d f false e
+run_none (a ∷ b ∷ d ∷ f ∷ g ∷ []) e = elim (before_last (a ∷ b ∷ d ∷ f ∷ []) g e) [
+  | inl dashed ↦ neither (bytes_eq g (codes "desperate")) (running_by a b d f true) None (numbers_none a b d f true dashed) refl
+  | inr dg ↦ no_last g (running_by a b d f true) dg
+]
+run_none (a ∷ b ∷ d ∷ f ∷ g ∷ h ∷ rest) e = refl
+
+pub dashed_none : (words : List Text) → list_all is_plain_word words ≡ false → program_of words ≡ None
+dashed_none [] e = absurd (true_false e)
+dashed_none (w ∷ further) e = elim (and_false (is_plain_word w) (list_all is_plain_word further) e) [
+  | inl dw ↦ let d = dash w dw in ap (λ v. program_of (v ∷ further)) d.1
+  | inr more ↦ neither (bytes_eq w (codes "run")) (run_of further) (option_map Plain (plan_of (w ∷ further))) (run_none further more)
+      (ap (option_map Plain) (plan_none (w ∷ further) e))
 ]

@@ -3,7 +3,7 @@
 ghost use Rattle.std.specs.Prelude.{◌≡◌, IfOk, false, codes};
 ghost use Rattle.clap.specs.Words.{app_of, rule_of, new_app};
 ghost use Rattle.clap.specs.Simple.{on_top};
-ghost use Rattle.command_line.specs.CommandLine.{whole_app, one_app, check_app, needed, bare, IsLocal};
+ghost use Rattle.command_line.specs.CommandLine.{whole_app, one_app, check_app, run_app, needed, bare, IsLocal};
 
 use clap::{Arg, Command};
 use std::alloc::{AllocError, Global};
@@ -14,7 +14,11 @@ pub fn whole_command<'a>(alloc: Global) -> Result<Command<'a>, AllocError>
 {
     let one = one_command(alloc)?;
     let check = check_command(alloc)?;
-    let whole = bare_command(alloc).subcommand(one)?.subcommand(check)?;
+    let run = run_command(alloc)?;
+    let whole = bare_command(alloc)
+        .subcommand(one)?
+        .subcommand(check)?
+        .subcommand(run)?;
     Ok(whole)
 }
 
@@ -57,4 +61,18 @@ fn check_command<'a>(alloc: Global) -> Result<Command<'a>, AllocError>
 {
     let check = Command::new(alloc, "check").arg(needed(alloc, "workers"))?;
     Ok(check)
+}
+
+/// `run S C W SCANS` and `run S C W SCANS desperate`.
+fn run_command<'a>(alloc: Global) -> Result<Command<'a>, AllocError>
+    ensures app { IfOk result (λ command. app_of command ≡ run_app) }
+    ensures local { IfOk result IsLocal }
+{
+    let run = Command::new(alloc, "run")
+        .arg(needed(alloc, "slabs"))?
+        .arg(needed(alloc, "chunks"))?
+        .arg(needed(alloc, "workers"))?
+        .arg(needed(alloc, "scans"))?
+        .arg(Arg::new(alloc, "desperate"))?;
+    Ok(run)
 }

@@ -1,10 +1,13 @@
-//! The words after the program's name, read by `clap`, and the plan that they ask for.
+//! The words after the program's name, read by `clap`, and the program that they ask for.
 #![tactic(auto)]
 
 mod commands;
+mod program;
+mod run_words;
 mod words;
 
-pub use words::plan_of;
+pub use program::Program;
+pub use words::program_of;
 
 #[cfg(test)]
 mod tests;

@@ -1,6 +1,6 @@
 //! Words that are accepted and refused.
 
-use crate::plan_of;
+use crate::{Program, program_of};
 use kmem_model::Plan;
 use std::alloc::Global;
 use std::test::Fail;
@@ -20,20 +20,66 @@ fn accepted(rt: HostRuntime) -> Result<(), Fail> {
         (["check", "16"].as_slice(), Plan::Check(16)),
     ];
     for (words, plan) in lists {
-        assert_eq!(rt; plan_of(rt.alloc(), words)?, Some(plan), "at {words:?}");
+        let program = Some(Program::Plain(plan));
+        assert_eq!(rt; program_of(rt.alloc(), words)?, program, "at {words:?}");
+    }
+    Ok(())
+}
+
+fn run(slabs: u32, chunks: u32, workers: u32, scans: u32, desperate: bool) -> Program {
+    Program::Run {
+        slabs,
+        chunks,
+        workers,
+        scans,
+        desperate,
+    }
+}
+
+#[test]
+fn accepted_runs(rt: HostRuntime) -> Result<(), Fail> {
+    let lists = [
+        (
+            ["run", "8", "8", "2", "1"].as_slice(),
+            run(8, 8, 2, 1, false),
+        ),
+        (
+            ["run", "64", "8", "4", "20", "desperate"].as_slice(),
+            run(64, 8, 4, 20, true),
+        ),
+        (
+            ["run", "4096", "16", "16", "1000"].as_slice(),
+            run(4096, 16, 16, 1000, false),
+        ),
+    ];
+    for (words, program) in lists {
+        assert_eq!(rt;
+            program_of(rt.alloc(), words)?,
+            Some(program),
+            "at {words:?}"
+        );
     }
     Ok(())
 }
 
 fn is_refused(alloc: Global, words: &[&str]) -> Result<bool, Fail> {
-    Ok(plan_of(alloc, words)?.is_none())
+    Ok(program_of(alloc, words)?.is_none())
 }
 
 #[test]
 fn refused(rt: HostRuntime) -> Result<(), Fail> {
     let alloc = rt.alloc();
     assert!(rt; is_refused(alloc, &[])?);
-    for word in ["help", "--help", "-h", "--version", "one", "check", ""] {
+    for word in [
+        "help",
+        "--help",
+        "-h",
+        "--version",
+        "one",
+        "check",
+        "run",
+        "",
+    ] {
         assert!(rt; is_refused(alloc, &[word])?, "at {word:?}");
     }
     for word in ["help", "0", "17", "01", "-1", "+1", ""] {
@@ -61,5 +107,25 @@ fn refused(rt: HostRuntime) -> Result<(), Fail> {
     assert!(rt; is_refused(alloc, &["one", "2", "2", "1", "1"])?);
     assert!(rt; is_refused(alloc, &["check", "1", "1"])?);
     assert!(rt; is_refused(alloc, &["help", "one"])?);
+    Ok(())
+}
+
+#[test]
+fn refused_runs(rt: HostRuntime) -> Result<(), Fail> {
+    let lists = [
+        ["run", "8", "8", "2"].as_slice(),
+        ["run", "8", "8", "2", "0"].as_slice(),
+        ["run", "8", "8", "2", "1001"].as_slice(),
+        ["run", "8", "8", "17", "1"].as_slice(),
+        ["run", "8", "8", "0", "1"].as_slice(),
+        ["run", "8", "8", "+2", "1"].as_slice(),
+        ["run", "08", "8", "2", "1"].as_slice(),
+        ["run", "4096", "64", "1", "1"].as_slice(),
+        ["run", "8", "8", "2", "1", "mild"].as_slice(),
+        ["run", "8", "8", "2", "1", "desperate", "1"].as_slice(),
+    ];
+    for words in lists {
+        assert!(rt; is_refused(rt.alloc(), words)?, "at {words:?}");
+    }
     Ok(())
 }

@@ -3,27 +3,30 @@
 ghost use Rattle.std.specs.Prelude.{◌≡◌, ◌≤◌, map, option_map, Some, IfSome, IfOk, codes};
 ghost use Rattle.std.specs.List.{list_all};
 ghost use Rattle.kmem_text.specs.Numbers.{number_within};
-ghost use Rattle.kmem_model.specs.Words.{plan_of, bounded, IsInRange};
-ghost use Rattle.clap.specs.Words.{first_value, found_of, subcommand_rows_of};
-ghost use Rattle.command_line.specs.CommandLine.{is_plain_word, one_in, check_in, plan_found};
+ghost use Rattle.kmem_model.specs.Words.{bounded, IsInRange};
+ghost use Rattle.clap.specs.Words.{first_value, found_of, rows_of, subcommand_rows_of};
+ghost use Rattle.command_line.specs.CommandLine.{is_plain_word, one_in, check_in, plan_named, program_found};
+ghost use Rattle.command_line.specs.Programs.{program_of, IsInRangeOf};
 
 use crate::commands::whole_command;
+use crate::program::Program;
+use crate::run_words::run_in;
 use clap::ArgMatches;
 use clap::error::ErrorKind;
 use kmem_model::Plan;
 use kmem_text::number_within;
 use std::alloc::{AllocError, Global};
 
-/// The plan of the words, if they have one.
-pub fn plan_of(alloc: Global, words: &[&str]) -> Result<Option<Plan>, AllocError>
-    ensures plan { IfOk result (λ plan. plan ≡ plan_of (map (λ word. word.now) words.now)) }
-    ensures ranges { IfOk result (λ plan. IfSome plan IsInRange) }
+/// The program of the words, if they have one.
+pub fn program_of(alloc: Global, words: &[&str]) -> Result<Option<Program>, AllocError>
+    ensures program { IfOk result (λ program. program ≡ program_of (map (λ word. word.now) words.now)) }
+    ensures ranges { IfOk result (λ program. IfSome program IsInRangeOf) }
 {
     if !are_plain(words) {
         return Ok(None);
     }
     match whole_command(alloc)?.try_get_matches_from(words) {
-        Ok(matches) => Ok(plan_found(&matches)),
+        Ok(matches) => Ok(program_found(&matches)),
         Err(error) => match error.kind() {
             ErrorKind::OutOfMemory => Err(AllocError),
             _ => Ok(None),
@@ -47,12 +50,23 @@ fn is_plain(word: &str) -> bool
     }
 }
 
-/// The plan of the values that were found.
-fn plan_found(matches: &ArgMatches<'_>) -> Option<Plan>
-    ensures plan { result ≡ plan_found (subcommand_rows_of matches.now) }
-    ensures ranges { IfSome result IsInRange }
+/// The program of the values that were found.
+fn program_found(matches: &ArgMatches<'_>) -> Option<Program>
+    ensures program { result ≡ program_found (subcommand_rows_of matches.now) }
+    ensures ranges { IfSome result IsInRangeOf }
 {
     let (name, given) = matches.subcommand()?;
+    if name == "run" {
+        run_in(given)
+    } else {
+        Some(Program::Plain(plan_named(name, given)?))
+    }
+}
+
+fn plan_named(name: &str, given: &ArgMatches<'_>) -> Option<Plan>
+    ensures plan { result ≡ plan_named name.now (rows_of (found_of given.now)) }
+    ensures ranges { IfSome result IsInRange }
+{
     if name == "one" {
         one_in(given)
     } else if name == "check" {
