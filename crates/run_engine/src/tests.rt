@@ -1,5 +1,5 @@
 //! Runs of two workers, of a worker beside a mover, and of sixteen.
-ghost use Rattle.std.specs.Prelude.{◌≤◌, length};
+ghost use Rattle.std.specs.Prelude.{◌≤◌};
 ghost use Rattle.run_engine.specs.Quotas.{IsInPlan};
 
 use crate::{OpenRun, Ran, RunPlan};
@@ -30,9 +30,11 @@ fn run_with<T: Threads + Wait + Sync, G: Gate>(
     script: &[u8],
     gate: &G,
 ) -> Result<Done, Fail>
-    requires plan { IsInPlan plan }
-    requires short { length script.now ≤ 16777216 }
+    requires { IsInPlan plan }
 {
+    if script.len() > 16_777_216 {
+        return Err(Fail::from("a script that is too long"));
+    }
     let script = read_script(alloc, script, plan.workers)
         .ok()
         .ok_or("a script")?;
