@@ -4,3 +4,4 @@ pub mod Benches
 pub mod Freeing
 pub mod Reports
 pub mod Serves
+pub mod Running

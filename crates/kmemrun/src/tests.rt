@@ -91,6 +91,55 @@ fn worked_rows(rt: HostRuntime) -> Result<(), Fail> {
     Ok(())
 }
 
+const PAIR: &[u8] = b"1 put a x\n2 put b y\n1 get a\n2 get b\n";
+
+const PAIR_REPLIES: &[u8] = b"=== replies\n1 1 new\n1 2 val x\n2 1 new\n2 2 val y\n=== history\n";
+
+const PAIR_REPORT: &[u8] =
+    b"=== report\nbuffers 64\nlive 2\nslabs 1\nfree 6\nscans 1\nbegun 0\nmoves yes 0 no 0 later 0 dontneed 0 dontknow 0 gone 0\nsettle yes 0 no 0 later 0 dontneed 0 dontknow 0 gone 0\nslab 0 used 2\n";
+
+/// Two workers on threads: what is printed, and that `check` finds it legal.
+#[test]
+fn run_on_threads(rt: HostRuntime) -> Result<(), Fail> {
+    let alloc = rt.alloc();
+    for mode in [
+        ["run", "8", "8", "2", "1"].as_slice(),
+        &["run", "8", "8", "2", "1", "desperate"],
+    ] {
+        let ran = run_in_memory(&rt, alloc, mode, PAIR)?;
+        assert_eq!(rt; ran.status, Status::Fine);
+        assert!(rt; ran.out.bytes().starts_with(PAIR_REPLIES));
+        assert!(rt; ran.out.bytes().ends_with(PAIR_REPORT));
+        let mut whole = PAIR.to_vec(alloc)?;
+        whole.extend_from_slice(b"=== run\n")?;
+        whole.extend_from_slice(ran.out.bytes())?;
+        let told = run_in_memory(&rt, alloc, &["check", "2"], whole.as_slice())?;
+        assert_eq!(rt; told.out.bytes(), b"legal\n".as_slice());
+    }
+    Ok(())
+}
+
+/// A run on threads whose sink fails writes a front, and one whose source fails writes nothing.
+#[test]
+fn a_run_with_failing_streams(rt: HostRuntime) -> Result<(), Fail> {
+    let alloc = rt.alloc();
+    let words = ["run", "8", "8", "2", "1"];
+    let cases = [
+        ([9].as_slice(), [3].as_slice(), Status::WriteFault, 24),
+        ([1].as_slice(), [9].as_slice(), Status::ReadFault, 0),
+    ];
+    for (reads, writes, status, most) in cases {
+        let mut source = MemSource::create(alloc, PAIR, 64, reads)?;
+        let mut out = MemSink::create(alloc, 4096, 12, writes)?;
+        let mut err = MemSink::create(alloc, 64, 4, &[])?;
+        let ended = top(&rt, alloc, &words, &mut source, &mut out, &mut err, &Open);
+        assert_eq!(rt; ended.status, status);
+        assert!(rt; out.bytes().len() <= most);
+        assert!(rt; PAIR_REPLIES.starts_with(out.bytes()));
+    }
+    Ok(())
+}
+
 /// Words without a plan, before any input is read.
 fn refused<T: Wait + Threads + Sync>(rt: &T, alloc: Global, words: &[&str]) -> Result<bool, Fail> {
     let ran = run_in_memory(rt, alloc, words, b"1 put a x\n")?;

@@ -114,13 +114,15 @@ fn carry_out<T: Wait + Threads + Sync, R: Source, W: Sink, G: Gate>(
             ending: carry_out_plain(alloc, plan, input, out),
             ran: None,
         },
-        Some(Program::Run {
-            slabs,
-            chunks,
-            workers,
-            scans,
-            desperate,
-        }) => {
+        Some(
+            Program::Run {
+                slabs,
+                chunks,
+                workers,
+                scans,
+                desperate,
+            },
+        ) => {
             let plan = RunPlan {
                 slabs,
                 chunks,

@@ -1,6 +1,8 @@
 -- The fault that is due comes.
-use Rattle.std.proofs.Common.{◌≡◌, ◌≢◌, ◌⊎◌, ◌<◌, ◌≤◌, ℕ, List, length, Option, Some, None, Result, Ok, Err, inl, inr, refl, sym, ap, ◌∙◌, subst, arith}
-use Rattle.kmem_text.specs.Grammar.{script_of, first_bad_of}
+use Rattle.std.proofs.Common.{◌≡◌, ◌⊎◌, ℕ, List, Option, Some, None, Result, Ok, Err, inl, inr, refl, sym, ap, ◌∙◌, subst, arith}
+use Rattle.std.specs.Result.{IsErrOf}
+use Rattle.kmem_text.specs.Grammar.{Plain}
+use Rattle.run_engine.specs.declared.plan.RunPlan.{RunPlan}
 use Rattle.kmem_text.specs.declared.spelling.LineFault.{LineFault}
 use Rattle.run_check.specs.declared.fault.Fault.{Fault}
 use Rattle.run_check.specs.declared.fault.Fault.TheVariants.{BadScript, Read, Write, Limit, NoMemory, Illegal}
@@ -54,3 +56,11 @@ none_due workers bytes Read good h = h
 none_due workers bytes Write good h = h
 none_due workers bytes NoMemory good h = h
 none_due workers bytes (Illegal line) good h = h
+
+-- a call that ended well has no fault
+pub ok_err : {A : Type 0} (x : A) (f : Fault) → IsErrOf {T = A} (Ok x) f → ⊥
+ok_err x f e = cc
+
+-- what holds of a run holds of the plan and the script that it was opened for
+pub at_plan : (P : RunPlan → Plain → Type 0) (p q : RunPlan) (s t : Plain) → p ≡ q → s ≡ t → P p s → P q t
+at_plan P p q s t same alike h = subst (λ (x : Plain). P q x) alike (subst (λ (y : RunPlan). P y s) same h)

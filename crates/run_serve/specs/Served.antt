@@ -2,7 +2,7 @@
 use Rattle.std.specs.Prelude.{◌≡◌, ◌⊎◌, ◌<◌, ◌≤◌, ℕ, List, length, None, Some, Result, IsOk, IsErrOf}
 use Rattle.kmem_text.specs.Grammar.{script_of, first_bad_of}
 use Rattle.run_check.specs.declared.fault.Fault.{Fault}
-use Rattle.run_check.specs.declared.fault.Fault.TheVariants.{BadScript, Read, Write, Limit, NoMemory, Illegal}
+use Rattle.run_check.specs.declared.fault.Fault.TheVariants.{BadScript, Read, Write, Limit, NoMemory}
 
 -- the input is within 16 MiB, and its script is good and has at most 100,000 commands
 pub record HasGoodScript (workers : ℕ) (bytes : List ℕ) : Type 0 where

@@ -1,6 +1,6 @@
 //! `run`: a script is read to its end, run on threads and printed.
 
-ghost use Rattle.std.specs.Prelude.{◌≡◌, ◌≢◌, ◌<◌, ◌≤◌, ◌↔◌, length, IfOk, OnOk, IfErr, IfSome, IsErrOf};
+ghost use Rattle.std.specs.Prelude.{◌≡◌, ◌≢◌, ◌<◌, ◌≤◌, ◌↔◌, ℕ, length, IfOk, OnOk, IfErr, IfSome, IsErrOf};
 ghost use Rattle.std.specs.Io.KnownBytes.{Keeps, IsAtEnd};
 ghost use Rattle.kmem_io.specs.Streams.{CanRise};
 ghost use Rattle.kmem_text.specs.Grammar.{script_of};
@@ -43,6 +43,7 @@ pub fn serve<T: Wait + Threads + Sync, R: Source, W: Sink, G: Gate>(
     ensures fault { IfErr result (λ fault. fault ≢ Fault.Read → fault ≢ Fault.Write →
         IfSome (R.left input.old) (λ bytes. IsInputOrFree plan.workers bytes fault)) }
     ensures counted { IfErr result IsCounted }
+    ensures none_illegal { IfErr result (λ fault. (line : ℕ) → fault ≢ Fault.Illegal line) }
     ensures due { IfSome (R.left input.old) (λ bytes. (due : Fault) → IsInputFault plan.workers bytes due → IsDueAt result due) }
     ensures fine { IfSome (R.left input.old) (λ bytes. HasGoodScript plan.workers bytes → IsServed result) }
 
@@ -68,6 +69,7 @@ fn open_run(alloc: Global, plan: RunPlan, bytes: &[u8]) -> Result<OpenRun, Fault
     ensures good { OnOk result (HasGoodScript plan.workers bytes.now) }
     ensures fault { IfErr result (λ fault. IsInputOrFree plan.workers bytes.now fault) }
     ensures counted { IfErr result IsCounted }
+    ensures none_illegal { IfErr result (λ fault. (line : ℕ) → fault ≢ Fault.Illegal line) }
 {
     let script = script_in(alloc, plan.workers, bytes)?;
     match OpenRun::create(alloc, plan, script) {
