@@ -1,24 +1,28 @@
 -- Everything that the closes of a run show, put together.
-use Rattle.std.proofs.Common.{◌≡◌, ◌+◌, ◌*◌, ◌<◌, ◌≤◌, ◌||◌, ℕ, true, false, List, [], ◌∷◌, ◌++◌, map, length, reverse, count_by, is_some, All, Some, refl, sym, ap, ap₂, ◌∙◌, subst, arith}
+use Rattle.std.proofs.Common.{◌≡◌, ◌+◌, ◌*◌, ◌<◌, ◌≤◌, ℕ, true, false, List, [], ◌∷◌, ◌++◌, map, length, reverse, count_by, is_some, All, refl, sym, ap, ap₂, ◌∙◌, subst, ⊎_elim, arith}
 use Rattle.std.specs.List.{sum_by}
-use Rattle.std.proofs.lemmas.List.Elements.{All-head, All-tail, All-same, All-weaker}
+use Rattle.std.proofs.lemmas.List.Elements.{All-head, All-tail, All-same, All-weaker, recursion_from_All, All-from_recursion}
+use Rattle.std.specs.List.{AllByRecursion}
 use Rattle.kmem_text.specs.Grammar.{Plain}
-use Rattle.kmem_text.specs.declared.command.Line.{Line}
-use Rattle.kmem_text.specs.Scripts.{IsScript, IsWorker}
+use Rattle.kmem_text.specs.Scripts.{IsScript}
 use Rattle.kmem_model.specs.declared.record_entry.RecordEntry.{RecordEntry}
 use Rattle.kmem_model.specs.declared.cache_entry.CacheEntry.{CacheEntry}
-use Rattle.kmem_model.specs.Records.{IsValid, RecordMap, no_records}
+use Rattle.kmem_model.specs.Records.{IsValid, no_records}
 use Rattle.kmem_model.specs.RunLines.{IsHistoryOf}
 use Rattle.kmem_model.specs.Heap.{StandsFor}
 use Rattle.kmem_model.specs.History.{map_after, IsLegalHistory, IsEntryWithin}
-use Rattle.kmem_model.specs.CacheState.{CacheSizes, CacheState, sizes_of, has_pending, pending_count, out_count}
+use Rattle.kmem_model.specs.CacheState.{CacheSizes, CacheState, sizes_of, opening, has_pending, pending_count, out_count}
 use Rattle.kmem_model.specs.CacheHistory.{Reaches, Follows}
-use Rattle.kmem_model.specs.CacheCounts.{total, entries_in, entries_by, moves_begun, moves_ended}
-use Rattle.kmem_model.specs.CacheScans.{is_begin}
-use Rattle.kmem_model.specs.Report.{counted_in, ends_in}
+use Rattle.kmem_model.specs.CacheCounts.{total, total_before, entries_in, entries_by, made_out, made_free, moves_begun, moves_ended}
+use Rattle.kmem_model.specs.CacheEnter.{is_full}
+use Rattle.kmem_model.specs.SettleWhole.{IsWhole}
+use Rattle.kmem_model.specs.declared.cache_entry.CacheEntry.TheVariants.{Full}
+use Rattle.record_table.specs.Runs.{is_put, asks_slabs}
+use Rattle.consolidator.specs.Rounds.{IsOfMover}
+use Rattle.run_workers.specs.Workers.{is_refused, is_full_entry}
 use Rattle.hist_lock.specs.History.{entries_of}
 use Rattle.kmem_cache.specs.Locked.{sizes_at}
-use Rattle.kmem_cache.specs.Seats.{CacheSeatState, buffers_at, IsCacheSeat}
+use Rattle.kmem_cache.specs.Seats.{CacheSeatState, buffers_at}
 use Rattle.kmem_cache.specs.Closing.{CacheLogState, frees_of}
 use Rattle.record_table.specs.Tables.{object_count}
 use Rattle.record_table.specs.Sessions.{SessionState}
@@ -27,27 +31,25 @@ use Rattle.record_table.specs.Closing.{RecordLogState, all_brought, all_fetched}
 use Rattle.record_heap.specs.View.{HeapView}
 use Rattle.object_cache.specs.Cache.{CacheView}
 use Rattle.object_cache.specs.declared.tally.Tally.{Tally}
-use Rattle.move_queue.specs.Queue.{QueueSeatState, pushed_by, popped_by}
+use Rattle.move_queue.specs.Queue.{pushed_by, popped_by}
 use Rattle.consolidator.specs.Tallies.{tally_sum, ends_of}
-use Rattle.run_print.specs.Printed.{IsPrintable}
 use Rattle.run_workers.specs.declared.worker.Worker.{Worker}
-use Rattle.run_movers.specs.declared.mover.MoverTask.{MoverTask}
 use Rattle.run_movers.specs.Histories.{AreWorkersBefore, IsOfMoversAlone}
 use Rattle.run_engine.specs.declared.plan.RunPlan.{RunPlan}
 use Rattle.run_engine.specs.declared.shared.Shared.{Shared}
 use Rattle.run_engine.specs.declared.crew.Crew.{Crew}
 use Rattle.run_engine.specs.declared.parts.Parts.{Parts}
-use Rattle.run_engine.specs.declared.closing.Closed.{Closed}
-use Rattle.run_engine.specs.declared.ran.Ran.{Ran}
 use Rattle.run_engine.specs.Quotas.{IsInPlan, first_plan, second_plan}
-use Rattle.run_engine.specs.Opened.{IsShared, pass_of}
+use Rattle.run_engine.specs.Opened.{IsShared}
 use Rattle.run_engine.specs.Done.{IsCrewDone, IsWorkerDone}
-use Rattle.run_engine.specs.Ran.{IsRan, IsCacheHistoryOf, AreRefusalsDue, last_map}
+use Rattle.run_engine.specs.Ran.{IsRan, IsCacheHistoryOf, AreFullsDue}
 use Rattle.run_engine.specs.Closed.{ArePartsOf, IsClosed, log_of}
 use Rattle.run_engine.proofs.Taken.{all_both, of_parts, sum_parts}
 use Rattle.run_engine.proofs.Histories.{SharedLaw, Exact, shared_all, of_workers, found_full, asked_slabs}
-use Rattle.run_engine.proofs.Scans.{SumsLaw, scans_by, pass_is, mover_is, balances, sum_pair, sum_behind, begun_in_all, ended_in_all}
-use Rattle.run_engine.proofs.States.{asked_after, still_calm}
+use Rattle.run_engine.proofs.Scans.{SumsLaw, weight_of, scans_by, pass_is, mover_is, balances, sum_pair, sum_behind, begun_in_all, ended_in_all}
+use Rattle.run_engine.proofs.States.{asked_after, still_calm, reached_sizes}
+use Rattle.run_engine.proofs.Fulls.{full_out, full_count, out_most, pending_most}
+use Rattle.run_engine.proofs.Asking.{asks_most, before_full, HasFull, find_full, none_by, none_refused}
 use Rattle.run_engine.proofs.Printable.{ValidLaw, WithinLaw, replies_within}
 
 pub record Laws : Type 0 where
@@ -55,6 +57,11 @@ pub record Laws : Type 0 where
       pending_count s + total moves_ended (entries_in history) ≡ total moves_begun (entries_in history)
   pub pending_along : (s t : CacheState) (entries : List CacheEntry) → Follows s entries t → pending_count t + total moves_ended entries ≡ pending_count s + total moves_begun entries
   pub sums : SumsLaw
+  pub whole : (sizes : CacheSizes) (history : List (ℕ × CacheEntry)) (s : CacheState) → 0 < sizes.chunks → 0 < sizes.limit → Reaches sizes history s → IsWhole s
+  pub out : (sizes : CacheSizes) (history : List (ℕ × CacheEntry)) (s : CacheState) → 0 < sizes.chunks → Reaches sizes history s →
+      out_count s + total made_free (entries_in history) ≡ total made_out (entries_in history)
+  pub passes : (passes : ℕ) (weight : CacheEntry → ℕ) (history : List (ℕ × CacheEntry)) → All (λ (e : ℕ × CacheEntry). e.0 < passes) history →
+      total_before passes weight history ≡ total weight (entries_in history)
   pub begun : IsOfMoversAlone moves_begun
   pub ended : IsOfMoversAlone moves_ended
   pub shared : SharedLaw
@@ -234,6 +241,54 @@ module _ (laws : Laws) (plan : RunPlan) (script : Plain) (shared : Shared) (crew
         second = scans_by shared (plan.workers + 1) (second_plan plan) crew.second log.entries f.done.second second_mine;
       }
 
+  -- No Full but where every buffer is out
+
+  full_so : (front rest : List (ℕ × CacheEntry)) (pass : ℕ) → log.entries ≡ front ++ (pass, Full) ∷ rest →
+      (s : CacheState) × Reaches (sizes_of plan.slabs plan.chunks 64) front s × (is_full s ≡ true)
+  full_so front rest pass is =
+      full_out front rest pass (opening (sizes_of plan.slabs plan.chunks 64)) f.state
+      (subst (λ (h : List (ℕ × CacheEntry)). Reaches (sizes_of plan.slabs plan.chunks 64) h f.state) is reached_so)
+
+  asked_so : total (weight_of asks_slabs) (entries_in log.entries) ≤ count_by (λ line. is_put line.command) script.lines
+  asked_so =
+      asks_most plan.workers script.lines log.entries
+      (asked_slabs shared script.lines records.entries log.entries crew.workers.items plan.workers f.done.workers f.done.passes exact_both)
+      (laws.passes (plan.workers + 2) (weight_of asks_slabs) log.entries within_so)
+      (subst (All IsOfMover) (sym first_mine) f.done.first.moved.kinds) (subst (All IsOfMover) (sym second_mine) f.done.second.moved.kinds)
+
+  room_so : count_by (λ line. is_put line.command) script.lines + 64 ≤ plan.slabs * plan.chunks → HasFull log.entries → ⊥
+  room_so room h =
+      let (s, reached, full) = full_so h.front h.rest h.pass h.is in
+      let whole = laws.whole (sizes_of plan.slabs plan.chunks 64) h.front s f.in_plan.chunks.0 (omega arith) reached in
+      let same = reached_sizes (sizes_of plan.slabs plan.chunks 64) h.front s reached in
+      let buffers : out_count s ≡ plan.slabs * plan.chunks = full_count s whole full ∙ ap₂ (λ a b. a * b) same.0 same.1 in
+      omega (
+        arith,
+        room,
+        buffers,
+        out_most (entries_in h.front) (out_count s) (pending_count s) (laws.out (sizes_of plan.slabs plan.chunks 64) h.front s f.in_plan.chunks.0 reached)
+            (laws.pending (sizes_of plan.slabs plan.chunks 64) h.front s reached),
+        pending_most s,
+        same.2,
+        before_full h.front h.rest h.pass,
+        ap (λ (l : List (ℕ × CacheEntry)). total (weight_of asks_slabs) (entries_in l)) h.is,
+        asked_so,
+      )
+
+  fulls_so : AreFullsDue plan script.lines records.entries log.entries
+  fulls_so =
+      record {
+        out = full_so;
+        room = λ room. All-from_recursion (λ (e : ℕ × RecordEntry). is_refused e.1 ≡ false) records.entries
+            (none_refused plan.workers records.entries (recursion_from_All (λ (e : ℕ × RecordEntry). e.0 < plan.workers) records.entries passes_so) (λ pass small.
+            let none : AllByRecursion (λ (e : ℕ × CacheEntry). is_full_entry e.1 ≡ false) log.entries = ⊎_elim (λ none. none) (λ some. absurd (room_so room some)) (find_full log.entries) in
+            omega (
+              arith,
+              found_full shared script.lines records.entries log.entries crew.workers.items plan.workers f.done.workers f.done.passes exact_both pass small,
+              none_by pass log.entries none,
+            )));
+      }
+
   -- What is left
 
   count_so : count_by is_some heap.heap.objects ≡ out_count slabs.state
@@ -272,6 +327,7 @@ module _ (laws : Laws) (plan : RunPlan) (script : Plain) (shared : Shared) (crew
           found = found_full shared script.lines records.entries log.entries crew.workers.items plan.workers f.done.workers f.done.passes exact_both;
           asked = asked_slabs shared script.lines records.entries log.entries crew.workers.items plan.workers f.done.workers f.done.passes exact_both;
         };
+        fulls = fulls_so;
         home = f.homes.1 ∙ (sym f.is.home ∙ sym f.cache_homes.1);
         moves =
             omega (

@@ -1,23 +1,20 @@
 -- What is dealt to the workers, taken from its end.
-use Rattle.std.proofs.Common.{◌≡◌, ◌+◌, ◌*◌, ◌<◌, ◌≤◌, ◌^◌, ◌==◌, ℕ, suc, Bool, true, false, cond, List, [], ◌∷◌, ◌++◌, length, map, filter, reverse, All, Some, append_assoc, refl, sym, ap, ◌∙◌, subst, arith}
+use Rattle.std.proofs.Common.{◌≡◌, ◌+◌, ◌*◌, ◌≤◌, ◌==◌, ℕ, suc, List, [], ◌∷◌, ◌++◌, length, map, filter, reverse, All, Some, append_assoc, sym, ap, ◌∙◌, subst, arith}
 use Rattle.std.specs.List.{range_with_len}
 use Rattle.std.proofs.lemmas.Bool.{cond_both}
 use Rattle.std.proofs.lemmas.List.{length-map, reverse-append}
 use Rattle.std.proofs.lemmas.List.Elements.{All-nil, All-cons, All-head, All-tail, All-pop}
 use Rattle.std.proofs.lemmas.List.FromFn.{map-range_with_len_more}
 use Rattle.kmem_text.specs.Grammar.{IsWithinNames}
-use Rattle.kmem_text.specs.declared.command.Command.{Command}
 use Rattle.kmem_text.specs.declared.command.Line.{Line}
 use Rattle.kmem_model.specs.declared.record_entry.RecordEntry.{RecordEntry}
 use Rattle.kmem_model.specs.declared.cache_entry.CacheEntry.{CacheEntry}
 use Rattle.kmem_model.specs.History.{worker_of, commands_of}
 use Rattle.hist_lock.specs.Passes.{PassState, fresh, fresh_passes}
-use Rattle.kmem_cache.specs.declared.locked.CacheHome.{CacheHome}
 use Rattle.kmem_cache.specs.Seats.{CacheSeatState, IsCacheSeat, fresh_cache_seat}
 use Rattle.record_table.specs.Tables.{TableHome}
 use Rattle.record_table.specs.Sessions.{SessionState, IsFreshSession}
 use Rattle.run_workers.specs.declared.worker.Worker.{Worker}
-use Rattle.run_workers.specs.Workers.{IsReady}
 use Rattle.run_engine.specs.declared.shared.Shared.{Shared}
 use Rattle.run_engine.specs.Quotas.{command_counts, worker_entries}
 use Rattle.run_engine.specs.Opened.{pass_of, IsStarting}

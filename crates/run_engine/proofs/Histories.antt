@@ -1,26 +1,20 @@
 -- The history of the records is one of the script.
-use Rattle.std.proofs.Common.{◌≡◌, ◌+◌, ◌<◌, ◌≤◌, ℕ, List, [], ◌∷◌, map, length, count_by, All, true, refl, sym, ap, ◌∙◌, subst, ⊎_elim, arith}
+use Rattle.std.proofs.Common.{◌≡◌, ◌+◌, ◌<◌, ◌≤◌, ℕ, List, [], map, count_by, All, true, sym, ap, ◌∙◌, subst, ⊎_elim, arith}
 use Rattle.std.specs.List.{range_with_len}
 use Rattle.std.proofs.lemmas.Bool.{cases_lt}
-use Rattle.kmem_text.specs.Grammar.{Plain}
-use Rattle.kmem_text.specs.declared.command.Command.{Command}
 use Rattle.kmem_text.specs.declared.command.Line.{Line}
-use Rattle.kmem_text.specs.Scripts.{IsScript, IsWorker}
+use Rattle.kmem_text.specs.Scripts.{IsWorker}
 use Rattle.kmem_model.specs.declared.record_entry.RecordEntry.{RecordEntry}
 use Rattle.kmem_model.specs.declared.cache_entry.CacheEntry.{CacheEntry}
-use Rattle.kmem_model.specs.Records.{no_records}
-use Rattle.kmem_model.specs.History.{worker_of, numbered, commands_of, IsLegalHistory, IsShared}
-use Rattle.kmem_model.specs.RunLines.{IsHistoryOf}
+use Rattle.kmem_model.specs.History.{worker_of, numbered, commands_of, IsShared}
 use Rattle.kmem_model.specs.CacheCounts.{entries_by}
 use Rattle.hist_lock.specs.History.{entries_of}
 use Rattle.record_table.specs.Runs.{is_put, asks_slabs}
 use Rattle.run_workers.specs.declared.worker.Worker.{Worker}
 use Rattle.run_workers.specs.Workers.{asked_of, is_refused, is_full_entry, is_of_worker}
-use Rattle.run_engine.specs.declared.plan.RunPlan.{RunPlan}
 use Rattle.run_engine.specs.declared.shared.Shared.{Shared}
 use Rattle.run_engine.specs.Opened.{pass_of}
 use Rattle.run_engine.specs.Done.{IsWorkerDone}
-use Rattle.run_engine.specs.Ran.{AreRefusalsDue}
 use Rattle.run_engine.proofs.Rows.{found}
 use Rattle.run_engine.proofs.Taken.{all_both}
 

@@ -11,3 +11,5 @@ pub mod Closings
 pub mod Movers
 pub mod Reports
 pub mod Parting
+pub mod Fulls
+pub mod Asking

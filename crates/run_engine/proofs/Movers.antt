@@ -1,12 +1,11 @@
 -- The movers of a run that was opened.
-use Rattle.std.proofs.Common.{◌≡◌, ◌+◌, ◌*◌, ◌/◌, ◌≤◌, ◌<◌, ◌^◌, ℕ, Bool, true, false, List, [], ◌∷◌, ◌++◌, length, map, All, Some, append_assoc, refl, sym, ap, ◌∙◌, subst, arith}
+use Rattle.std.proofs.Common.{◌≡◌, ◌+◌, ◌*◌, ◌≤◌, ℕ, Bool, true, false, List, [], ◌∷◌, ◌++◌, length, map, All, Some, append_assoc, sym, ap, ◌∙◌, arith}
 use Rattle.std.proofs.lemmas.List.{length-map, length-append}
 use Rattle.std.proofs.lemmas.List.Elements.{All-pop}
 use Rattle.kmem_model.specs.Heap.{Object}
 use Rattle.kmem_model.specs.declared.record_entry.RecordEntry.{RecordEntry}
 use Rattle.kmem_model.specs.declared.cache_entry.CacheEntry.{CacheEntry}
 use Rattle.hist_lock.specs.Passes.{PassState, fresh, fresh_passes}
-use Rattle.kmem_cache.specs.declared.locked.CacheHome.{CacheHome}
 use Rattle.kmem_cache.specs.Seats.{CacheSeatState, IsCacheSeat, fresh_cache_seat}
 use Rattle.record_table.specs.Tables.{TableHome}
 use Rattle.record_table.specs.Asks.{MoverState, IsMoverOf, IsFreshMover}
@@ -18,7 +17,7 @@ use Rattle.run_movers.specs.declared.mover.MoverTask.{MoverTask}
 use Rattle.run_engine.specs.declared.plan.RunPlan.{RunPlan}
 use Rattle.run_engine.specs.declared.shared.Shared.{Shared}
 use Rattle.run_engine.specs.declared.opening.Dealt.{Dealt}
-use Rattle.run_engine.specs.Quotas.{IsInPlan, worker_entries, mover_entries, cache_quotas, queue_quotas, odd_scans, even_scans, first_plan, second_plan}
+use Rattle.run_engine.specs.Quotas.{IsInPlan, worker_entries, mover_entries, cache_quotas, odd_scans, even_scans, first_plan, second_plan}
 use Rattle.run_engine.specs.Opened.{IsShared, IsWaiting}
 use Rattle.run_engine.specs.Openings.{AreDealt, HasDealt}
 use Rattle.run_engine.proofs.Rows.{same_front, map-push, fresh-first, length-fresh}

@@ -1,18 +1,17 @@
 -- The replies of a legal history tell names of the script.
-use Rattle.std.proofs.Common.{◌≡◌, ◌+◌, ◌*◌, ◌<◌, ◌≤◌, ◌&&◌, ℕ, Bool, true, false, cond, List, [], ◌∷◌, length, replicate, All, None, refl, sym, ap, ◌∙◌, subst, ⊎_elim, arith}
+use Rattle.std.proofs.Common.{◌≡◌, ◌*◌, ◌&&◌, ℕ, Bool, true, false, List, [], ◌∷◌, length, All, None, refl, sym, ap, ◌∙◌, subst, ⊎_elim, arith}
 use Rattle.std.specs.List.{AllByRecursion}
 use Rattle.std.proofs.lemmas.Bool.{cond_both, cond-false}
 use Rattle.std.proofs.lemmas.List.{length-replicate}
 use Rattle.std.proofs.lemmas.List.Elements.{recursion_from_All, All-from_recursion}
 use Rattle.kmem_text.specs.declared.command.Command.{Command}
-use Rattle.kmem_text.specs.declared.command.Reply.{Reply}
 use Rattle.kmem_text.specs.Grammar.{IsWithinNames}
 use Rattle.kmem_text.specs.Replies.{IsReplyWithinNames}
 use Rattle.kmem_model.specs.declared.record_entry.RecordEntry.{RecordEntry}
 use Rattle.kmem_model.specs.CacheState.{sizes_of, opening}
 use Rattle.kmem_model.specs.Records.{RecordMap, IsValid, no_records}
 use Rattle.kmem_model.specs.RecordStep.{step, IsInRange, IsValidAs}
-use Rattle.kmem_model.specs.History.{worker_of, is_refusal, map_next, is_put_of_absent, IsRight, IsLegalHistory, IsEntryWithin}
+use Rattle.kmem_model.specs.History.{worker_of, is_refusal, map_next, is_put_of_absent, IsLegalHistory, IsEntryWithin}
 use Rattle.kmem_model.specs.One.{OneState, OneStep, one_step, is_refused}
 use Rattle.kmem_model.proofs.Legal.{placed_is}
 

@@ -1,7 +1,7 @@
 -- What is reported at the end of a run.
-use Rattle.std.proofs.Common.{◌≡◌, ℕ, true, false, List, [], Some, is_some, refl, sym, ap, ap₂, ◌∙◌}
+use Rattle.std.proofs.Common.{◌≡◌, ℕ, true, List, is_some, refl, sym, ap, ap₂, ◌∙◌}
 use Rattle.kmem_text.specs.Grammar.{Plain}
-use Rattle.kmem_model.specs.CacheState.{CacheState, out_count, has_pending}
+use Rattle.kmem_model.specs.CacheState.{out_count}
 use Rattle.kmem_model.specs.CacheCounts.{entries_in}
 use Rattle.kmem_model.specs.CacheScans.{is_begin}
 use Rattle.kmem_model.specs.Records.{RecordMap, live_count}
@@ -10,8 +10,7 @@ use Rattle.kmem_model.specs.Says.{stage_in, AreInBuffers}
 use Rattle.kmem_model.specs.Settle.{EndedMove}
 use Rattle.kmem_model.specs.SettleEntries.{moves_entries}
 use Rattle.kmem_model.specs.SettleWhole.{IsWhole, IsSettled}
-use Rattle.kmem_model.specs.One.{OneState}
-use Rattle.kmem_model.specs.Report.{Report, MoveCounts, report_on, counted_in, ends_in}
+use Rattle.kmem_model.specs.Report.{report_on, counted_in, ends_in}
 use Rattle.kmem_report.specs.Reported.{reported}
 use Rattle.object_cache.specs.Cache.{CacheView}
 use Rattle.object_cache.specs.declared.tally.Tally.{Tally}
@@ -21,7 +20,7 @@ use Rattle.run_end.specs.Ends.{IsWoundUp, HasFreed, AreAllFree, IsOnFewest}
 use Rattle.run_end.proofs.Settling.{together}
 use Rattle.run_engine.specs.declared.plan.RunPlan.{RunPlan}
 use Rattle.run_engine.specs.declared.closing.Closed.{Closed}
-use Rattle.run_engine.specs.Ran.{IsReportOn, IsNothingLost, last_map}
+use Rattle.run_engine.specs.Ran.{IsReportOn, last_map}
 use Rattle.run_engine.specs.Closed.{IsClosed}
 
 -- what a tally of moves counts is how their entries end

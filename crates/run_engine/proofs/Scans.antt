@@ -1,12 +1,12 @@
 -- What the movers leave in the history of the cache, and the sums over all that took part.
-use Rattle.std.proofs.Common.{◌≡◌, ◌+◌, ◌-◌, ◌^◌, ◌<◌, ◌≤◌, ◌||◌, ℕ, Bool, true, false, cond, min, List, [], ◌∷◌, map, length, filter, replicate, count_by, All, refl, sym, ap, ◌∙◌, ap₂, subst, arith}
+use Rattle.std.proofs.Common.{◌≡◌, ◌+◌, ◌-◌, ◌^◌, ◌<◌, ◌||◌, ℕ, Bool, true, false, cond, min, List, [], ◌∷◌, filter, replicate, count_by, All, refl, ap, ◌∙◌, ap₂, arith}
 use Rattle.std.specs.List.{sum_by}
 use Rattle.std.proofs.lemmas.List.Elements.{All-head, All-tail}
 use Rattle.std.proofs.lemmas.List.Sums.{sum_by-cons}
 use Rattle.kmem_model.specs.declared.cache_entry.CacheEntry.{CacheEntry}
 use Rattle.kmem_model.specs.declared.cache_entry.CacheEntry.TheVariants.{Alloc, Full, Free, Scan, Begin, Idle, Gone, End, Forget}
 use Rattle.kmem_model.specs.declared.cache_entry.Said.{Said}
-use Rattle.kmem_model.specs.CacheCounts.{total, entries_in, entries_by, moves_begun, moves_ended}
+use Rattle.kmem_model.specs.CacheCounts.{total, entries_in, entries_by}
 use Rattle.kmem_model.specs.CacheScans.{is_scan, is_begin, scanning, has_rounds}
 use Rattle.kmem_model.specs.Report.{MoveCounts, counted_in, ends_in, is_end_by, is_gone_entry, is_yes, is_no, is_later, is_dont_need, is_dont_know}
 use Rattle.record_table.specs.Runs.{asks_slabs, frees_slab}
@@ -63,11 +63,10 @@ sum_behind weight x y zs = omega (arith, sum_by-cons weight x (y ∷ zs), sum_by
 
 -- Entries that are counted
 
-weight_of : (CacheEntry → Bool) → CacheEntry → ℕ
+abbrev pub weight_of : (CacheEntry → Bool) → CacheEntry → ℕ
 weight_of is e = cond (is e) 1 0
 
-total_is : (is : CacheEntry → Bool) (entries : List CacheEntry) → total (weight_of is) entries ≡ count_by is entries
-unfolding weight_of
+pub total_is : (is : CacheEntry → Bool) (entries : List CacheEntry) → total (weight_of is) entries ≡ count_by is entries
 total_is is [] = refl
 total_is is (e ∷ es) = omega (arith, total_is is es, sum_by-cons (λ (x : CacheEntry). cond {A = ℕ} (is x) 1 0) e es)
 
@@ -112,7 +111,6 @@ gone_not (End j a) h = refl
 gone_not Forget h = refl
 
 weighs_alone : (is : CacheEntry → Bool) → NotOfWorkers is → IsOfMoversAlone (weight_of is)
-unfolding weight_of
 weighs_alone is not e h = ap (λ (x : Bool). cond {A = ℕ} x 1 0) (not e h)
 
 abbrev pub SumsLaw : Type 0

@@ -1,11 +1,10 @@
 -- The states of the cache at the end of its history, and after the frees behind it.
-use Rattle.std.proofs.Common.{◌≡◌, ◌+◌, ◌*◌, ◌<◌, ℕ, Bool, false, true, List, [], ◌∷◌, map, length, replicate, count_by, Some, refl, sym, ap, ◌∙◌, subst, arith}
+use Rattle.std.proofs.Common.{◌≡◌, ◌+◌, ◌*◌, ℕ, false, List, [], ◌∷◌, length, None, refl, sym, ◌∙◌, arith}
 use Rattle.std.proofs.lemmas.List.{length-replicate}
 use Rattle.run_movers.proofs.Sums.{none_any}
 use Rattle.kmem_model.specs.declared.cache_entry.CacheEntry.{CacheEntry}
-use Rattle.kmem_model.specs.declared.cache_entry.CacheEntry.TheVariants.{Free}
-use Rattle.kmem_model.specs.CacheState.{CacheState, CacheSizes, sizes_of, opening, has_pending, pending_count}
-use Rattle.kmem_model.specs.CacheHistory.{Reaches, Follows, state_after, entered_all}
+use Rattle.kmem_model.specs.CacheState.{CacheState, CacheSizes, opening, slab_in_source, has_pending, pending_count}
+use Rattle.kmem_model.specs.CacheHistory.{Reaches, Follows}
 use Rattle.kmem_model.specs.CacheCounts.{total, entries_in, moves_begun, moves_ended}
 use Rattle.run_end.proofs.Sizes.{follows_sizes}
 use Rattle.kmem_model.proofs.CacheCounts.{history_follows}
@@ -18,6 +17,13 @@ asked_after sizes history entries s t reached follows =
     (follows_sizes entries s t follows).asked
     ∙ ((follows_sizes (entries_in history) (opening sizes) s (sym (history_follows history (opening sizes)) ∙ reached)).asked
     ∙ length-replicate (sizes.slabs * sizes.chunks) false)
+
+-- a state that is reached has the sizes of the opening
+pub reached_sizes : (sizes : CacheSizes) (history : List (ℕ × CacheEntry)) (s : CacheState) → Reaches sizes history s →
+    (length s.slabs ≡ sizes.slabs) × (s.chunks ≡ sizes.chunks) × (length s.pending ≡ sizes.limit)
+reached_sizes sizes history s reached =
+    let same = follows_sizes (entries_in history) (opening sizes) s (sym (history_follows history (opening sizes)) ∙ reached) in
+    (same.slabs ∙ length-replicate sizes.slabs (slab_in_source sizes.chunks), same.chunks, same.limit ∙ length-replicate sizes.limit None)
 
 -- frees begin and end no move
 pub frees_begin : (numbers : List ℕ) → total moves_begun (frees_of numbers) ≡ 0

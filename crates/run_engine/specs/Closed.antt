@@ -1,5 +1,5 @@
 -- A run between its threads and its end (this project's own).
-use Rattle.std.specs.Prelude.{◌≡◌, ℕ, false, List, [], ◌∷◌, ◌++◌, length, map, reverse, is_some, count_by}
+use Rattle.std.specs.Prelude.{◌≡◌, ℕ, false, List, [], ◌∷◌, length, map, reverse, is_some, count_by}
 use Rattle.kmem_text.specs.Grammar.{Plain}
 use Rattle.kmem_model.specs.CacheState.{out_count, has_pending}
 use Rattle.kmem_model.specs.CacheHistory.{Follows}

@@ -1,5 +1,5 @@
 -- How many entries and pushes each part of a run may make, and which scans each mover makes (this project's own rule).
-use Rattle.std.specs.Prelude.{ℕ, ◌+◌, ◌*◌, ◌<◌, ◌≤◌, ◌/◌, Bool, true, false, List, [], ◌∷◌, ◌++◌, length, map}
+use Rattle.std.specs.Prelude.{ℕ, ◌+◌, ◌*◌, ◌<◌, ◌≤◌, ◌/◌, true, false, List, [], ◌∷◌, ◌++◌, length, map}
 use Rattle.std.specs.List.{range_with_len}
 use Rattle.kmem_text.specs.declared.command.Line.{Line}
 use Rattle.kmem_model.specs.History.{commands_of}

@@ -1,5 +1,5 @@
 -- What a run hands out, and what it prints (this project's own).
-use Rattle.std.specs.Prelude.{◌≡◌, ℕ, ◌+◌, ◌<◌, ◌≤◌, true, false, List, All, Some, Option, length, filter, count_by, is_some, replicate}
+use Rattle.std.specs.Prelude.{◌≡◌, ℕ, ◌+◌, ◌*◌, ◌++◌, ◌∷◌, ◌<◌, ◌≤◌, true, false, List, All, Some, Option, length, filter, count_by, is_some, replicate}
 use Rattle.std.specs.List.{sum_by}
 use Rattle.std.specs.Io.KnownBytes.{Appends}
 use Rattle.kmem_io.specs.Streams.{AppendsFront}
@@ -7,11 +7,12 @@ use Rattle.kmem_text.specs.Grammar.{Plain}
 use Rattle.kmem_text.specs.declared.command.Line.{Line}
 use Rattle.kmem_model.specs.declared.record_entry.RecordEntry.{RecordEntry}
 use Rattle.kmem_model.specs.declared.cache_entry.CacheEntry.{CacheEntry}
-use Rattle.kmem_model.specs.declared.cache_entry.CacheEntry.TheVariants.{Scan}
+use Rattle.kmem_model.specs.declared.cache_entry.CacheEntry.TheVariants.{Full, Scan}
 use Rattle.kmem_model.specs.Records.{RecordMap, no_records, live_count}
 use Rattle.kmem_model.specs.History.{worker_of, commands_of, map_after}
 use Rattle.kmem_model.specs.RunLines.{IsHistoryOf, run_text}
 use Rattle.kmem_model.specs.CacheState.{CacheState, sizes_of, has_pending, out_count}
+use Rattle.kmem_model.specs.CacheEnter.{is_full}
 use Rattle.kmem_model.specs.CacheHistory.{Reaches, Follows}
 use Rattle.kmem_model.specs.CacheScans.{is_scan, is_begin, scan_entries, has_rounds}
 use Rattle.kmem_model.specs.CacheCounts.{entries_in, entries_by, total, moves_begun}
@@ -55,6 +56,12 @@ pub record AreRefusalsDue (plan : RunPlan) (lines : List Line) (records : List (
   pub found : (pass : ℕ) → pass < plan.workers → count_by is_refused (entries_of pass records) ≤ count_by is_full_entry (entries_by pass history)
   pub asked : (pass : ℕ) → pass < plan.workers → count_by asks_slabs (entries_by pass history) ≤ count_by is_put (commands_of (worker_of pass) lines)
 
+-- a Full stands only where every buffer is out; and no `full` is replied where there are as many buffers as the script has puts, and 64 more
+pub record AreFullsDue (plan : RunPlan) (lines : List Line) (records : List (ℕ × RecordEntry)) (history : List (ℕ × CacheEntry)) : Type 0 where
+  pub out : (front rest : List (ℕ × CacheEntry)) (pass : ℕ) → history ≡ front ++ (pass, Full) ∷ rest →
+      (s : CacheState) × Reaches (sizes_of plan.slabs plan.chunks 64) front s × (is_full s ≡ true)
+  pub room : count_by (λ line. is_put line.command) lines + 64 ≤ plan.slabs * plan.chunks → All (λ e. is_refused e.1 ≡ false) records
+
 -- What a run of this plan over this script hands out
 
 -- the histories of its records and of its cache, of one home, and how many moves its movers pushed and had back
@@ -64,6 +71,7 @@ pub record IsRan (plan : RunPlan) (script : Plain) (ran : Ran) : Type 0 where
   pub end : CacheState
   pub cache : IsCacheHistoryOf plan ran.cache.entries end
   pub refusals : AreRefusalsDue plan script.lines ran.records.entries ran.cache.entries
+  pub fulls : AreFullsDue plan script.lines ran.records.entries ran.cache.entries
   pub home : ran.records.home ≡ ran.cache.home
   pub moves : sum_by (λ m. m.pushed + m.refused) ran.moves.items ≡ total moves_begun (entries_in ran.cache.entries)
 

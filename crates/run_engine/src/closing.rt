@@ -14,7 +14,7 @@ use crate::plan::RunPlan;
 use crate::ran::Ran;
 use crate::shared::Shared;
 use consolidator::{add, law_notes};
-use kmem_model::{law_counts, law_follows, law_one_step, law_step};
+use kmem_model::{law_counts, law_follows, law_one_step, law_step, law_whole};
 use kmem_text::Script;
 use object_cache::{ObjectCache, Tally};
 use record_heap::{RecordHeap, RecordKind};
@@ -118,6 +118,7 @@ pub fn close_all<R: Wait>(
 {
     law_counts();
     law_follows();
+    law_whole();
     law_step();
     law_one_step();
     law_notes();

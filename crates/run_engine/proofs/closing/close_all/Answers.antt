@@ -1,4 +1,4 @@
-use Rattle.std.proofs.Common.{◌≡◌, ◌+◌, length, sym, ap, ◌∙◌, arith}
+use Rattle.std.proofs.Common.{length, sym, ap, ◌∙◌, arith}
 use Rattle.kmem_text.specs.Scripts.{plain}
 use Rattle.run_engine.proofs.Parting.{many_workers, sessions_of, movers_of, places_of, places_done, seats_of, many_sessions, many_movers, many_seats}
 use Rattle.run_engine.proofs.Closings.{closed_so}
@@ -43,6 +43,9 @@ returns g c =
       pending = c.law_counts.ensures.pending;
       pending_along = c.law_counts.ensures.pending_along;
       sums = c.law_movers.ensures.sums;
+      whole = c.law_whole.ensures.reached;
+      out = c.law_counts.ensures.out;
+      passes = c.law_counts.ensures.passes;
       begun = c.law_movers.ensures.begun;
       ended = c.law_movers.ensures.ended;
       shared = c.law_shared.ensures;

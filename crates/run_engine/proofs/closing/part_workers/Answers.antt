@@ -1,4 +1,4 @@
-use Rattle.std.proofs.Common.{◌≡◌, ◌∷◌, ◌++◌, [], List, map, reverse, ap, sym, ◌∙◌, arith, append_assoc}
+use Rattle.std.proofs.Common.{◌∷◌, ◌++◌, [], map, reverse, ap, sym, ◌∙◌, arith, append_assoc}
 use Rattle.kmem_cache.proofs.Partings.{map-more}
 use Rattle.run_workers.specs.declared.worker.Worker.{Worker}
 use Rattle.run_engine.proofs.closing.part_workers.Goals as goal

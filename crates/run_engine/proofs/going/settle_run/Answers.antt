@@ -1,4 +1,3 @@
-use Rattle.std.proofs.Common.{◌≡◌}
 use Rattle.kmem_text.specs.Scripts.{plain}
 use Rattle.run_engine.proofs.Reports.{report_so}
 use Rattle.run_engine.proofs.going.settle_run.Goals as goal

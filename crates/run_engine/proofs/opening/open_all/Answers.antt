@@ -1,4 +1,4 @@
-use Rattle.std.proofs.Common.{◌≡◌, ◌≤◌, length, sum, All, ℕ, List, sym, ap, ◌∙◌, subst, arith}
+use Rattle.std.proofs.Common.{◌≡◌, ◌≤◌, length, sum, All, sym, ap, ◌∙◌, subst, arith}
 use Rattle.run_engine.specs.Quotas.{command_counts}
 use Rattle.run_engine.proofs.Counts.{counts_many, counts_few, counts_sum}
 use Rattle.run_engine.proofs.opening.open_all.Goals as goal

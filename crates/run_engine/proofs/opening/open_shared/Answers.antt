@@ -1,7 +1,6 @@
-use Rattle.std.proofs.Common.{◌≡◌, ◌+◌, ◌*◌, ◌<◌, ℕ, List, [], ◌∷◌, length, sum, sym, ap, ◌∙◌, arith}
+use Rattle.std.proofs.Common.{◌≡◌, ◌*◌, ℕ, [], ◌∷◌, length, sum, sym, ap, ◌∙◌, arith}
 use Rattle.std.proofs.lemmas.List.{length-replicate}
 use Rattle.std.proofs.lemmas.List.Sums.{sum_by-cons}
-use Rattle.kmem_buf.specs.Homes.{Homes}
 use Rattle.kmem_model.specs.CacheState.{CacheState, slab_in_source}
 use Rattle.kmem_cache.specs.declared.locked.CacheHome.{CacheHome}
 use Rattle.move_queue.specs.declared.rule.Terms.{Terms}

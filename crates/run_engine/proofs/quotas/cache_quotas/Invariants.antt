@@ -1,4 +1,4 @@
-use Rattle.std.proofs.Common.{◌≡◌, ◌*◌, map, take}
+use Rattle.std.proofs.Common.{◌≡◌, take}
 use Rattle.run_engine.specs.Quotas.{worker_entries}
 use Rattle.run_engine.proofs.quotas.cache_quotas.Given as goal
 

@@ -1,4 +1,4 @@
-use Rattle.std.proofs.Common.{◌≡◌, ◌≤◌}
+use Rattle.std.proofs.Common.{◌≡◌}
 use Rattle.run_engine.specs.Quotas.{command_counts}
 use Rattle.run_engine.proofs.quotas.command_counts.Given as goal
 
