@@ -13,11 +13,11 @@ use Rattle.clap.specs.declared.error.kind.ErrorKind.{ErrorKind}
 use Rattle.clap.specs.declared.error.kind.ErrorKind.TheVariants.{MissingSubcommand, UnknownArgument, InvalidSubcommand}
 use Rattle.clap.proofs.WalkLemmas.{both}
 use Rattle.clap.proofs.OnLiterals.{clap_on_literals}
-use Rattle.command_line.specs.CommandLine.{whole_app, one_app, check_app, run_app, program_found, is_plain_word}
+use Rattle.command_line.specs.CommandLine.{whole_app, one_app, check_app, run_app, gen_app, program_found, is_plain_word}
 use Rattle.command_line.proofs.Plain.{plain_met, plain_other}
 use Rattle.command_line.proofs.Levels.{IsSubcommand, IsRead, below_top, names, whole_fault, read_taken, read_missing, read_stray}
 use Rattle.command_line.specs.declared.program.Program.TheVariants.{Plain}
-use Rattle.command_line.specs.Programs.{program_of, run_of}
+use Rattle.command_line.specs.Programs.{program_of, run_of, gen_of}
 use Rattle.kmem_model.specs.Words.{plan_of}
 
 pub free : is_simple_and_free whole_app ≡ true
@@ -70,6 +70,21 @@ read_run (a ∷ b ∷ d ∷ []) e = read_missing (codes "run") run_shape is_run 
 read_run (a ∷ b ∷ d ∷ f ∷ []) e = read_taken (codes "run") run_shape is_run (a ∷ b ∷ d ∷ f ∷ []) e (refl, (refl, (refl, (refl, (refl, (refl, (refl, (refl, tt)))))))) refl refl
 read_run (a ∷ b ∷ d ∷ f ∷ g ∷ []) e = read_taken (codes "run") run_shape is_run (a ∷ b ∷ d ∷ f ∷ g ∷ []) e (refl, (refl, (refl, (refl, (refl, (refl, (refl, (refl, (refl, (refl, tt)))))))))) refl refl
 read_run (a ∷ b ∷ d ∷ f ∷ g ∷ h ∷ rest) e = read_stray (codes "run") run_shape is_run (a ∷ b ∷ d ∷ f ∷ g ∷ []) h rest e (refl, (refl, (refl, (refl, (refl, (refl, (refl, (refl, (refl, (refl, tt)))))))))) refl refl
+
+abbrev gen_shape : Shape
+gen_shape = below_top gen_app.top
+
+is_gen : IsSubcommand (codes "gen") gen_shape
+unfolding clap_on_literals
+is_gen = record { met = λ further. refl; below = λ further. refl; words = λ further. refl; rows = λ further. refl }
+
+read_gen : (further : List Text) → list_all is_plain_word further ≡ true → IsRead (codes "gen" ∷ further)
+unfolding clap_on_literals
+read_gen [] e = read_missing (codes "gen") gen_shape is_gen [] e tt refl refl
+read_gen (a ∷ []) e = read_missing (codes "gen") gen_shape is_gen (a ∷ []) e (refl, (refl, tt)) refl refl
+read_gen (a ∷ b ∷ []) e = read_missing (codes "gen") gen_shape is_gen (a ∷ b ∷ []) e (refl, (refl, (refl, (refl, tt)))) refl refl
+read_gen (a ∷ b ∷ d ∷ []) e = read_taken (codes "gen") gen_shape is_gen (a ∷ b ∷ d ∷ []) e (refl, (refl, (refl, (refl, (refl, (refl, tt)))))) refl refl
+read_gen (a ∷ b ∷ d ∷ f ∷ rest) e = read_stray (codes "gen") gen_shape is_gen (a ∷ b ∷ d ∷ []) f rest e (refl, (refl, (refl, (refl, (refl, (refl, tt)))))) refl refl
 
 -- A first word that names no subcommand
 
@@ -129,23 +144,26 @@ by_name name w further is other = elim (bool_cases (bytes_eq w name)) [
 
 -- the names of the subcommands, in their order
 abbrev sub_names : List Text
-sub_names = codes "one" ∷ codes "check" ∷ codes "run" ∷ []
+sub_names = codes "one" ∷ codes "check" ∷ codes "run" ∷ codes "gen" ∷ []
 
 strange_plan : (w : Text) (further : List Text) → bytes_eq w (codes "one") ≡ false → bytes_eq w (codes "check") ≡ false → plan_of (w ∷ further) ≡ None
 strange_plan w further e1 e2 = cond-false (bytes_eq w (codes "one")) _ _ e1 ∙ cond-false (bytes_eq w (codes "check")) _ _ e2
 
-strange_program : (w : Text) (further : List Text) → bytes_eq w (codes "one") ≡ false → bytes_eq w (codes "check") ≡ false → bytes_eq w (codes "run") ≡ false → program_of (w ∷ further) ≡ None
-strange_program w further e1 e2 e3 = cond-false (bytes_eq w (codes "run")) (run_of further) (option_map Plain (plan_of (w ∷ further))) e3 ∙ ap (option_map Plain) (strange_plan w further e1 e2)
+strange_program : (w : Text) (further : List Text) → bytes_eq w (codes "one") ≡ false → bytes_eq w (codes "check") ≡ false → bytes_eq w (codes "run") ≡ false → bytes_eq w (codes "gen") ≡ false → program_of (w ∷ further) ≡ None
+strange_program w further e1 e2 e3 e4 =
+    let plain = option_map Plain (plan_of (w ∷ further)) in
+    cond-false (bytes_eq w (codes "run")) (run_of further) (if bytes_eq w (codes "gen") then gen_of further else plain) e3
+    ∙ (cond-false (bytes_eq w (codes "gen")) (gen_of further) plain e4 ∙ ap (option_map Plain) (strange_plan w further e1 e2))
 
 named_names : named sub_names ≡ names
 unfolding clap_on_literals
 named_names = refl
 
-read_strange : (w : Text) (further : List Text) → is_plain_word w ≡ true → bytes_eq w (codes "one") ≡ false → bytes_eq w (codes "check") ≡ false → bytes_eq w (codes "run") ≡ false → IsRead (w ∷ further)
-read_strange w further e e1 e2 e3 =
-    let none = none_met sub_names w (turned w (codes "one") e1, (turned w (codes "check") e2, (turned w (codes "run") e3, tt))) in
+read_strange : (w : Text) (further : List Text) → is_plain_word w ≡ true → bytes_eq w (codes "one") ≡ false → bytes_eq w (codes "check") ≡ false → bytes_eq w (codes "run") ≡ false → bytes_eq w (codes "gen") ≡ false → IsRead (w ∷ further)
+read_strange w further e e1 e2 e3 e4 =
+    let none = none_met sub_names w (turned w (codes "one") e1, (turned w (codes "check") e2, (turned w (codes "run") e3, (turned w (codes "gen") e4, tt)))) in
     let met = subst (λ (ns : Names). subcommand_met ns idle w ≡ None) named_names (ap (option_map (λ (p : Text × List Text). p.0)) none) in
-    inr (UnknownArgument, InvalidSubcommand ∷ [], strange_fault w further e met, strange_program w further e1 e2 e3)
+    inr (UnknownArgument, InvalidSubcommand ∷ [], strange_fault w further e met, strange_program w further e1 e2 e3 e4)
 
 pub all_read : (words : List Text) → list_all is_plain_word words ≡ true → IsRead words
 all_read [] e = inr (MissingSubcommand, [], none_fault, refl)
@@ -154,7 +172,8 @@ all_read (w ∷ further) e =
     by_name (codes "one") w further (read_one further p.1) (λ e1.
     by_name (codes "check") w further (read_check further p.1) (λ e2.
     by_name (codes "run") w further (read_run further p.1) (λ e3.
-    read_strange w further p.0 e1 e2 e3)))
+    by_name (codes "gen") w further (read_gen further p.1) (λ e4.
+    read_strange w further p.0 e1 e2 e3 e4))))
 
 -- a parse that is taken
 pub taken_program : (words : List Text) → list_all is_plain_word words ≡ true → fault_of whole_app words ≡ [] → program_found (subcommand_of whole_app words) ≡ program_of words

@@ -13,7 +13,7 @@ use Rattle.kmem_model.specs.declared.plan.Plan.TheVariants.{Check}
 use Rattle.kmem_model.specs.Words.{plan_of, one_of, check_of, bounded, settling}
 use Rattle.command_line.specs.declared.program.Program.{Program}
 use Rattle.command_line.specs.declared.program.Program.TheVariants.{Plain}
-use Rattle.command_line.specs.Programs.{program_of, run_of, running, running_by}
+use Rattle.command_line.specs.Programs.{program_of, run_of, running, running_by, gen_of, making}
 use Rattle.command_line.specs.CommandLine.{is_plain_word}
 
 and_false : (p q : Bool) → (p && q) ≡ false → (p ≡ false) ⊎ (q ≡ false)
@@ -171,10 +171,44 @@ run_none (a ∷ b ∷ d ∷ f ∷ g ∷ []) e = elim (before_last (a ∷ b ∷ d
 ]
 run_none (a ∷ b ∷ d ∷ f ∷ g ∷ h ∷ rest) e = refl
 
+-- one of the numbers of a made script isn't there
+
+no_made_workers : (seed commands : Option ℕ) → making seed None commands ≡ None
+no_made_workers None commands = refl
+no_made_workers (Some s) commands = refl
+
+no_made_commands : (seed workers : Option ℕ) → making seed workers None ≡ None
+no_made_commands None workers = refl
+no_made_commands (Some s) None = refl
+no_made_commands (Some s) (Some w) = refl
+
+gen_none : (further : List Text) → list_all is_plain_word further ≡ false → gen_of further ≡ None
+gen_none [] e = refl
+gen_none (a ∷ []) e = refl
+gen_none (a ∷ b ∷ []) e = refl
+gen_none (a ∷ b ∷ d ∷ []) e =
+    let seed = number_within 0 999999999 a in
+    let workers = number_within 1 16 b in
+    let commands = number_within 1 60000 d in
+    elim (and_false (is_plain_word a) (list_all is_plain_word (b ∷ d ∷ [])) e) [
+      | inl da ↦ ap (λ n. making n workers commands) (no_number 0 999999999 a da)
+      | inr more ↦ elim (and_false (is_plain_word b) (list_all is_plain_word (d ∷ [])) more) [
+        | inl db ↦ ap (λ n. making seed n commands) (no_number 1 16 b db) ∙ no_made_workers seed commands
+        | inr last ↦ elim (and_false (is_plain_word d) true last) [
+          | inl dd ↦ ap (making seed workers) (no_number 1 60000 d dd) ∙ no_made_commands seed workers
+          | inr none ↦ absurd (true_false none)
+        ]
+      ]
+    ]
+gen_none (a ∷ b ∷ d ∷ f ∷ rest) e = refl
+
 pub dashed_none : (words : List Text) → list_all is_plain_word words ≡ false → program_of words ≡ None
 dashed_none [] e = absurd (true_false e)
 dashed_none (w ∷ further) e = elim (and_false (is_plain_word w) (list_all is_plain_word further) e) [
   | inl dw ↦ let d = dash w dw in ap (λ v. program_of (v ∷ further)) d.1
-  | inr more ↦ neither (bytes_eq w (codes "run")) (run_of further) (option_map Plain (plan_of (w ∷ further))) (run_none further more)
-      (ap (option_map Plain) (plan_none (w ∷ further) e))
+  | inr more ↦
+      let plain = option_map Plain (plan_of (w ∷ further)) in
+      let is_gen = bytes_eq w (codes "gen") in
+      neither (bytes_eq w (codes "run")) (run_of further) (if is_gen then gen_of further else plain) (run_none further more)
+      (neither is_gen (gen_of further) plain (gen_none further more) (ap (option_map Plain) (plan_none (w ∷ further) e)))
 ]

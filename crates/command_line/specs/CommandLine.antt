@@ -10,7 +10,7 @@ use Rattle.kmem_model.specs.declared.plan.Plan.{Plan}
 use Rattle.kmem_model.specs.Words.{one_of, check_of}
 use Rattle.command_line.specs.declared.program.Program.{Program}
 use Rattle.command_line.specs.declared.program.Program.TheVariants.{Plain}
-use Rattle.command_line.specs.Programs.{run_of}
+use Rattle.command_line.specs.Programs.{run_of, gen_of}
 
 -- an argument that has to be there
 abbrev pub needed : Text → Rule
@@ -28,6 +28,10 @@ check_app = with_rule (new_app (codes "check")) (needed (codes "workers"))
 abbrev pub run_app : App
 run_app = with_rule (with_rule (with_rule (with_rule (with_rule (new_app (codes "run")) (needed (codes "slabs"))) (needed (codes "chunks"))) (needed (codes "workers"))) (needed (codes "scans"))) (new_rule (codes "desperate"))
 
+-- `gen SEED W N`
+abbrev pub gen_app : App
+gen_app = with_rule (with_rule (with_rule (new_app (codes "gen")) (needed (codes "seed"))) (needed (codes "workers"))) (needed (codes "commands"))
+
 -- a subcommand has to be there; there is no help and no version
 abbrev pub bare : Shape → Shape
 bare s = record s {
@@ -39,7 +43,7 @@ bare s = record s {
 }
 
 abbrev pub whole_app : App
-whole_app = with_subcommand (with_subcommand (with_subcommand (on_top bare (new_app (codes "kmemrun"))) one_app.top) check_app.top) run_app.top
+whole_app = with_subcommand (with_subcommand (with_subcommand (with_subcommand (on_top bare (new_app (codes "kmemrun"))) one_app.top) check_app.top) run_app.top) gen_app.top
 
 -- no argument of the command is one of its subcommands too
 abbrev pub IsLocal : Command → Type 0
@@ -76,11 +80,18 @@ run_in (Some slabs) (Some chunks) None scans desperate = None
 run_in (Some slabs) None workers scans desperate = None
 run_in None chunks workers scans desperate = None
 
+abbrev pub gen_in : Option Text → Option Text → Option Text → Option Program
+gen_in (Some seed) (Some workers) (Some commands) = gen_of (seed ∷ workers ∷ commands ∷ [])
+gen_in (Some seed) (Some workers) None = None
+gen_in (Some seed) None commands = None
+gen_in None workers commands = None
+
 abbrev pub program_named : Text → List Row → Option Program
 program_named name rows =
     if bytes_eq name (codes "run")
     then run_in (first_of (codes "slabs") rows) (first_of (codes "chunks") rows) (first_of (codes "workers") rows) (first_of (codes "scans") rows) (first_of (codes "desperate") rows)
-    else option_map Plain (plan_named name rows)
+    else (if bytes_eq name (codes "gen") then gen_in (first_of (codes "seed") rows) (first_of (codes "workers") rows) (first_of (codes "commands") rows)
+    else option_map Plain (plan_named name rows))
 
 abbrev pub program_found : Option (Text × List Row) → Option Program
 program_found None = None

@@ -3,7 +3,7 @@
 ghost use Rattle.std.specs.Prelude.{◌≡◌, IfOk, false, codes};
 ghost use Rattle.clap.specs.Words.{app_of, rule_of, new_app};
 ghost use Rattle.clap.specs.Simple.{on_top};
-ghost use Rattle.command_line.specs.CommandLine.{whole_app, one_app, check_app, run_app, needed, bare, IsLocal};
+ghost use Rattle.command_line.specs.CommandLine.{whole_app, one_app, check_app, run_app, gen_app, needed, bare, IsLocal};
 
 use clap::{Arg, Command};
 use std::alloc::{AllocError, Global};
@@ -15,10 +15,12 @@ pub fn whole_command<'a>(alloc: Global) -> Result<Command<'a>, AllocError>
     let one = one_command(alloc)?;
     let check = check_command(alloc)?;
     let run = run_command(alloc)?;
+    let made = gen_command(alloc)?;
     let whole = bare_command(alloc)
         .subcommand(one)?
         .subcommand(check)?
-        .subcommand(run)?;
+        .subcommand(run)?
+        .subcommand(made)?;
     Ok(whole)
 }
 
@@ -75,4 +77,16 @@ fn run_command<'a>(alloc: Global) -> Result<Command<'a>, AllocError>
         .arg(needed(alloc, "scans"))?
         .arg(Arg::new(alloc, "desperate"))?;
     Ok(run)
+}
+
+/// `gen SEED W N`.
+fn gen_command<'a>(alloc: Global) -> Result<Command<'a>, AllocError>
+    ensures app { IfOk result (λ command. app_of command ≡ gen_app) }
+    ensures local { IfOk result IsLocal }
+{
+    let made = Command::new(alloc, "gen")
+        .arg(needed(alloc, "seed"))?
+        .arg(needed(alloc, "workers"))?
+        .arg(needed(alloc, "commands"))?;
+    Ok(made)
 }

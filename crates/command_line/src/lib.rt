@@ -2,6 +2,7 @@
 #![tactic(auto)]
 
 mod commands;
+mod gen_words;
 mod program;
 mod run_words;
 mod words;

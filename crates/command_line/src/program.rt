@@ -1,4 +1,4 @@
-//! What the words after the program's name ask for, `run` included.
+//! What the words after the program's name ask for, `run` and `gen` included.
 
 use kmem_model::Plan;
 
@@ -15,5 +15,11 @@ pub enum Program {
         workers: u32,
         scans: u32,
         desperate: bool,
+    },
+    /// `gen SEED W N`: a script of N commands for W workers, which is made from the seed.
+    Gen {
+        seed: u32,
+        workers: u32,
+        commands: u32,
     },
 }

@@ -78,6 +78,7 @@ fn refused(rt: HostRuntime) -> Result<(), Fail> {
         "one",
         "check",
         "run",
+        "gen",
         "",
     ] {
         assert!(rt; is_refused(alloc, &[word])?, "at {word:?}");
@@ -123,6 +124,42 @@ fn refused_runs(rt: HostRuntime) -> Result<(), Fail> {
         ["run", "4096", "64", "1", "1"].as_slice(),
         ["run", "8", "8", "2", "1", "mild"].as_slice(),
         ["run", "8", "8", "2", "1", "desperate", "1"].as_slice(),
+    ];
+    for words in lists {
+        assert!(rt; is_refused(rt.alloc(), words)?, "at {words:?}");
+    }
+    Ok(())
+}
+
+#[test]
+fn made_scripts(rt: HostRuntime) -> Result<(), Fail> {
+    let accepted = [
+        (["gen", "0", "1", "1"].as_slice(), (0, 1, 1)),
+        (["gen", "7", "4", "60000"].as_slice(), (7, 4, 60_000)),
+        (
+            ["gen", "999999999", "16", "1"].as_slice(),
+            (999_999_999, 16, 1),
+        ),
+    ];
+    for (words, (seed, workers, commands)) in accepted {
+        let program = Some(Program::Gen {
+            seed,
+            workers,
+            commands,
+        });
+        assert_eq!(rt; program_of(rt.alloc(), words)?, program, "at {words:?}");
+    }
+    let lists = [
+        ["gen", "7", "4"].as_slice(),
+        ["gen", "7", "4", "0"].as_slice(),
+        ["gen", "7", "4", "60001"].as_slice(),
+        ["gen", "7", "17", "1"].as_slice(),
+        ["gen", "7", "0", "1"].as_slice(),
+        ["gen", "1000000000", "1", "1"].as_slice(),
+        ["gen", "00", "1", "1"].as_slice(),
+        ["gen", "+7", "1", "1"].as_slice(),
+        ["gen", "-7", "1", "1"].as_slice(),
+        ["gen", "7", "4", "1", "1"].as_slice(),
     ];
     for words in lists {
         assert!(rt; is_refused(rt.alloc(), words)?, "at {words:?}");

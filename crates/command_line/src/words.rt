@@ -9,6 +9,7 @@ ghost use Rattle.command_line.specs.CommandLine.{is_plain_word, one_in, check_in
 ghost use Rattle.command_line.specs.Programs.{program_of, IsInRangeOf};
 
 use crate::commands::whole_command;
+use crate::gen_words::gen_in;
 use crate::program::Program;
 use crate::run_words::run_in;
 use clap::ArgMatches;
@@ -58,6 +59,8 @@ fn program_found(matches: &ArgMatches<'_>) -> Option<Program>
     let (name, given) = matches.subcommand()?;
     if name == "run" {
         run_in(given)
+    } else if name == "gen" {
+        gen_in(given)
     } else {
         Some(Program::Plain(plan_named(name, given)?))
     }

@@ -1,14 +1,14 @@
-use Rattle.std.proofs.Common.{◌≡◌, ◌∙◌, true, List, codes, Option, Some, None, sym, ap}
+use Rattle.std.proofs.Common.{◌≡◌, ◌∙◌, true, false, List, codes, Option, Some, None, sym, ap}
 use Rattle.std.specs.Prelude.{Box, option_map}
 use Rattle.std.specs.Box.{box_value}
 use Rattle.std.specs.Str.{bytes_eq}
-use Rattle.std.proofs.lemmas.Bool.{cond-true}
+use Rattle.std.proofs.lemmas.Bool.{cond-true, cond-false}
 use Rattle.clap.specs.Words.{Text, Row, first_value, found_of, rows_of, subcommand_rows}
 use Rattle.clap.specs.declared.parser.matches.Found.{Found}
 use Rattle.clap.specs.declared.parser.matches.SubCommand.{SubCommand}
 use Rattle.clap.specs.declared.parser.matches.ArgMatches.TheViews.{out-SubCommand}
 use Rattle.clap.proofs.WalkLemmas.{first_value-rows}
-use Rattle.command_line.specs.CommandLine.{run_in, program_named, program_found}
+use Rattle.command_line.specs.CommandLine.{run_in, gen_in, program_named, program_found}
 use Rattle.command_line.proofs.words.program_found.Goals as goal
 
 module _ {Z : Type 0} where
@@ -27,7 +27,22 @@ run_by_rows f name is =
     same_run _ _ _ _ _ _ _ _ _ _ (first_value-rows f (codes "slabs")) (first_value-rows f (codes "chunks")) (first_value-rows f (codes "workers")) (first_value-rows f (codes "scans")) (first_value-rows f (codes "desperate"))
     ∙ sym (cond-true (bytes_eq name (codes "run")) _ _ is)
 
+same_gen : (a1 a2 b1 b2 d1 d2 : Option Text) → a1 ≡ a2 → b1 ≡ b2 → d1 ≡ d2 → gen_in a1 b1 d1 ≡ gen_in a2 b2 d2
+same_gen a1 a2 b1 b2 d1 d2 ea eb ed = λ i. gen_in (ea i) (eb i) (ed i)
+
+-- and those of a made script
+gen_by_rows : (f : Found) (name : Text) → bytes_eq name (codes "run") ≡ false → bytes_eq name (codes "gen") ≡ true → gen_in (first_value f (codes "seed")) (first_value f (codes "workers")) (first_value f (codes "commands")) ≡ program_named name (rows_of f)
+gen_by_rows f name e1 is =
+    same_gen _ _ _ _ _ _ (first_value-rows f (codes "seed")) (first_value-rows f (codes "workers")) (first_value-rows f (codes "commands"))
+    ∙ sym (cond-false (bytes_eq name (codes "run")) _ _ e1 ∙ cond-true (bytes_eq name (codes "gen")) _ _ is)
+
 pub returns-then-eq-clause-program : goal.returns-then-eq-clause-program
 returns-then-eq-clause-program c =
     let rows = both_known _ c.in_ok-name.name.now (rows_of (found_of c.in_ok-name.given.now)) c.in_ok-name.ensures.name c.in_ok-name.ensures.rows in
     c.run_in.ensures.program ∙ (run_by_rows (found_of c.in_ok-name.given.now) c.in_ok-name.name.now (sym c.eq.ensures ∙ c.if-eq.true) ∙ sym (ap program_found rows))
+
+pub returns-then-eq-2-clause-program : goal.returns-then-eq-2-clause-program
+returns-then-eq-2-clause-program c =
+    let rows = both_known _ c.in_ok-name.name.now (rows_of (found_of c.in_ok-name.given.now)) c.in_ok-name.ensures.name c.in_ok-name.ensures.rows in
+    c.gen_in.ensures.program
+    ∙ (gen_by_rows (found_of c.in_ok-name.given.now) c.in_ok-name.name.now (sym c.eq.ensures ∙ c.if-eq.false) (sym c.eq-else-eq.ensures ∙ c.if-eq-2.true) ∙ sym (ap program_found rows))
