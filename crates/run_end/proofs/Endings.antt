@@ -1,24 +1,27 @@
 -- What is at the end, from what is before the settle.
-use Rattle.std.proofs.Common.{◌≡◌, ◌+◌, ◌*◌, ◌<◌, ◌≤◌, ℕ, true, false, List, None, Some, is_some, count_by, sym, ap, ◌∙◌, subst, arith}
+use Rattle.std.proofs.Common.{◌≡◌, ◌+◌, ◌*◌, ◌<◌, ◌≤◌, ℕ, Bool, true, false, List, None, Some, is_some, count_by, refl, sym, ap, ◌∙◌, subst, arith}
 use Rattle.kmem_model.specs.CacheState.{CacheState, out_count, slab_count, has_pending}
 use Rattle.kmem_model.specs.CacheHistory.{Follows}
 use Rattle.kmem_model.specs.CacheCounts.{total, made_out, made_free}
 use Rattle.kmem_model.specs.declared.cache_entry.CacheEntry.{CacheEntry}
-use Rattle.kmem_model.specs.Records.{RecordMap, live_count}
+use Rattle.kmem_model.specs.Records.{RecordMap, is_live, live_count}
 use Rattle.kmem_model.specs.Heap.{HeapState, StandsFor, has_record, least_left_in, object_at, places_of}
 use Rattle.kmem_model.specs.Says.{says, stage_in, AreInBuffers}
 use Rattle.kmem_model.specs.One.{OneState, least_leftover, buffers_of}
-use Rattle.kmem_model.specs.OneRun.{answer_at, addresses_moved, without_leftovers}
+use Rattle.kmem_model.specs.OneRun.{answer_by, answer_at, addresses_moved, without_leftovers}
 use Rattle.kmem_model.specs.OneStands.{OneStands}
 use Rattle.kmem_model.specs.Settle.{Stage, Course, said_at, settled_in}
-use Rattle.kmem_model.specs.SettleWhole.{IsWhole, IsWholeStage, AreAllMovable, HasFewestSlabs, enough}
-use Rattle.kmem_model.specs.Report.{is_dont_need}
+use Rattle.kmem_model.specs.SettleWhole.{IsWhole, IsWholeStage, is_movable, AreAllMovable, HasFewestSlabs, enough}
+use Rattle.kmem_model.specs.Report.{is_no, is_later, is_dont_need}
+use Rattle.kmem_model.specs.declared.cache_entry.Said.{Said}
+use Rattle.kmem_model.specs.declared.cache_entry.Said.TheVariants.{DontKnow}
 use Rattle.object_cache.specs.Cache.{CacheView}
 use Rattle.object_cache.specs.declared.tally.Tally.{Tally}
 use Rattle.record_heap.specs.View.{HeapView}
 use Rattle.consolidator.specs.Settles.{SettlesTo}
-use Rattle.run_end.specs.Ends.{StandTogether, HasFreed, AreAllFree, IsOnFewest}
-use Rattle.run_end.proofs.Left.{without_map, as_many, needed_by, settled_kept, has_records, all_movable}
+use Rattle.run_end.specs.Ends.{StandTogether, HasFreed, AreAllFree, AreEndsDue, IsOnFewest}
+use Rattle.run_end.proofs.Left.{without_map, as_many, needed_by, settled_kept, has_records, all_such, such_movable, such_now, such_loose, such_needed}
+use Rattle.run_end.proofs.Asked.{AreAmong, WereAmong, settled_among, is_other_than, none_later, none_refused, none_unneeded}
 use Rattle.run_end.proofs.Sizes.{follows_sizes}
 use Rattle.run_end.proofs.Settling.{stand_calm, stand_buffers}
 
@@ -28,12 +31,13 @@ Answers = (s : OneState) (h : HeapState) (b : ℕ) → OneStands s h → says h 
 abbrev Fewest : Type 0
 Fewest = (n : ℕ) (stage : Stage) (result : Course) → IsWholeStage stage → AreAllMovable stage → settled_in n stage ≡ Some result → HasFewestSlabs stage.cache result.stage.cache
 
-pub record Ending (m : RecordMap) (addresses : List ℕ) (cache between : CacheView) (heap_between : HeapView) (cache' : CacheView) (heap' : HeapView) : Type 0 where
+pub record Ending (m : RecordMap) (addresses : List ℕ) (cache between : CacheView) (heap_between : HeapView) (cache' : CacheView) (heap' : HeapView) (tally : Tally) : Type 0 where
   pub others : List ℕ
   pub stands : StandsFor m others heap'.heap
   pub records : (b : ℕ) → is_some (object_at heap'.heap b) ≡ true → has_record (object_at heap'.heap b) ≡ true
   pub live : out_count cache'.state ≡ live_count m
   pub fewest : Answers → Fewest → AreAllFree m → IsOnFewest (live_count m) cache'.state
+  pub answered : Answers → AreEndsDue m tally
 
 pub ending : ((s : OneState) (h : HeapState) → OneStands s h → least_left_in h ≡ least_leftover s) →
     ((cache : CacheState) (h : HeapState) → IsWhole cache → has_pending cache ≡ false → AreInBuffers cache h.objects → IsWholeStage (stage_in cache h.objects)) →
@@ -42,7 +46,7 @@ pub ending : ((s : OneState) (h : HeapState) → OneStands s h → least_left_in
     (m : RecordMap) (addresses : List ℕ) (cache between cache' : CacheView) (heap heap_between heap' : HeapView) (tally : Tally) →
     count_by (λ x. x) (places_of heap.heap.objects) ≡ out_count cache.state →
     HasFreed (record { map = m; cache = cache.state; addresses = addresses }) cache heap between heap_between → SettlesTo between cache' heap_between heap' tally →
-    Ending m addresses cache between heap_between cache' heap'
+    Ending m addresses cache between heap_between cache' heap' tally
 ending leftover whole said along m addresses cache between cache' heap heap_between heap' tally counts freed does =
     record {
       others = addresses_moved s.addresses does.moves;
@@ -50,6 +54,7 @@ ending leftover whole said along m addresses cache between cache' heap heap_betw
       records = has_records heap'.heap cache'.state (said cache'.state heap'.heap) kept.0;
       live = live_so;
       fewest = λ answers fewest free. fewest_so (fewest (enough stage) stage course whole_so (movable answers free) does.settle);
+      answered = answered_so;
     }
   where
     before : OneState
@@ -94,10 +99,30 @@ ending leftover whole said along m addresses cache between cache' heap heap_betw
     live_so : out_count cache'.state ≡ live_count m
     live_so = kept.1 ∙ left
 
+    such : (among : Said → Bool) → among DontKnow ≡ true → Answers → ((id : ℕ) → is_live m id ≡ true → among (answer_by m (Some id)) ≡ true) →
+        AreAmong among (stage_in between.state heap_between.heap.objects)
+    such among unknown answers each =
+        let t : OneState = without_leftovers (buffers_of cache.state) (record { map = m; cache = cache.state; addresses = addresses }) in
+        subst (λ (x : CacheState). AreAmong among (stage_in x heap_between.heap.objects)) (sym at.state)
+        (all_such among unknown t heap_between.heap at.stands
+        (subst (λ (r : RecordMap). (id : ℕ) → is_live r id ≡ true → among (answer_by r (Some id)) ≡ true) (sym same_map) each) freed.none
+        (said t.cache heap_between.heap) (λ b. answers t heap_between.heap b at.stands))
+
     movable : Answers → AreAllFree m → AreAllMovable (stage_in between.state heap_between.heap.objects)
-    movable answers free =
-        subst (λ (t : CacheState). AreAllMovable (stage_in t heap_between.heap.objects)) (sym at.state)
-        (all_movable (without_leftovers (buffers_of cache.state) (record { map = m; cache = cache.state; addresses = addresses })) heap_between.heap at.stands (subst AreAllFree (sym same_map) free) freed.none (said (without_leftovers (buffers_of cache.state) (record { map = m; cache = cache.state; addresses = addresses })).cache heap_between.heap) (λ b. answers (without_leftovers (buffers_of cache.state) (record { map = m; cache = cache.state; addresses = addresses })) heap_between.heap b at.stands))
+    movable answers free = such is_movable refl answers (λ id live. such_movable m id (free id live).0 (free id live).1)
+
+    were : (among : Said → Bool) → among DontKnow ≡ true → Answers → ((id : ℕ) → is_live m id ≡ true → among (answer_by m (Some id)) ≡ true) → WereAmong among does.moves
+    were among unknown answers each =
+        settled_among among unknown (enough (stage_in between.state heap_between.heap.objects)) (stage_in between.state heap_between.heap.objects)
+        (record { stage = stage_in cache'.state heap'.heap.objects; moves = does.moves }) (such among unknown answers each) does.settle
+
+    answered_so : Answers → AreEndsDue m tally
+    answered_so answers =
+        record {
+          later = λ untagged. ap (λ (t : Tally). t.later) does.counts ∙ none_later does.moves (were (is_other_than is_later) refl answers (λ id live. such_now m id (untagged id live)));
+          refused = λ loose. ap (λ (t : Tally). t.no) does.counts ∙ none_refused does.moves (were (is_other_than is_no) refl answers (λ id live. such_loose m id (loose id live)));
+          unneeded = ap (λ (t : Tally). t.dont_need) does.counts ∙ none_unneeded does.moves (were (is_other_than is_dont_need) refl answers (λ id live. such_needed m id));
+        }
 
     fewest_so : HasFewestSlabs between.state cache'.state → IsOnFewest (live_count m) cache'.state
     fewest_so f =

@@ -13,13 +13,13 @@ use Rattle.kmem_model.specs.Records.{RecordMap, is_live, tag_count, live_count}
 use Rattle.kmem_model.specs.Heap.{Object, HeapState, StandsFor, address_in, has_record, is_leftover, least_left_in, object_at, places_of}
 use Rattle.kmem_model.specs.Says.{answer_about, says, stage_in}
 use Rattle.kmem_model.specs.One.{OneState, id_at, least_leftover, buffers_of}
-use Rattle.kmem_model.specs.OneRun.{answer_by, answer_at, without_leftover, without_leftovers}
+use Rattle.kmem_model.specs.OneRun.{answer_by, answer_at, is_fixed, without_leftover, without_leftovers}
 use Rattle.kmem_model.specs.OneStands.{OneStands}
 use Rattle.kmem_model.specs.Settle.{Stage, EndedMove, Course, said_at, says_after, cache_after_move, scanned, settled_in}
-use Rattle.kmem_model.specs.SettleWhole.{IsWhole, IsWholeStage, is_movable, AreAllMovable}
+use Rattle.kmem_model.specs.SettleWhole.{IsWhole, IsWholeStage, is_movable}
 use Rattle.kmem_model.specs.SettleMeasure.{IsInSettle}
 use Rattle.kmem_model.specs.SettleTurns.{with_cache, course_at}
-use Rattle.kmem_model.specs.Report.{is_dont_need}
+use Rattle.kmem_model.specs.Report.{is_no, is_later, is_dont_need}
 use Rattle.kmem_model.specs.declared.cache_entry.CacheEntry.{CacheEntry}
 use Rattle.kmem_model.specs.declared.cache_entry.CacheEntry.TheVariants.{Begin, End}
 use Rattle.kmem_model.specs.declared.cache_entry.Said.{Said}
@@ -32,7 +32,7 @@ use Rattle.kmem_model.proofs.SettleScan.{moved_keeps, scan_whole, scan_from}
 use Rattle.kmem_model.proofs.SettleScanned.{IsScanned}
 use Rattle.kmem_model.proofs.SettleEnds.{settle_keeps}
 use Rattle.kmem_model.proofs.SettleFewest.{out_forgotten}
-use Rattle.run_end.specs.Ends.{AreAllFree}
+use Rattle.run_end.proofs.Asked.{AreAmong, is_other_than}
 
 -- Leftovers
 
@@ -208,13 +208,14 @@ has_records h cache said needed b there = about (object_at h b) (ap is_dont_need
     about None e is = is
     about (Some o) e is = by_value o.value (cond o.fixed No (cond (nat_lt 0 o.holds) Later Yes)) e
 
--- where no record has a tag or is fixed, every object can be moved
-pub all_movable : (s : OneState) (h : HeapState) → OneStands s h → AreAllFree s.map → least_leftover s ≡ None → ((b : ℕ) → said_at (stage_in s.cache h.objects) b ≡ says h true b) →
-    ((b : ℕ) → says h true b ≡ answer_at s b) → AreAllMovable (stage_in s.cache h.objects)
-all_movable s h stands free none said right b =
-    ap is_movable (said b ∙ right b)
-    ∙ ⊎_elim (λ out. ap (λ x. is_movable (cond x (answer_by s.map (id_at s.map s.addresses b)) DontKnow)) out ∙ named (id_at s.map s.addresses b) refl out)
-    (λ back. ap (λ x. is_movable (cond x (answer_by s.map (id_at s.map s.addresses b)) DontKnow)) back)
+-- where there is no leftover, all answers are among those about records that live
+pub all_such : (among : Said → Bool) → among DontKnow ≡ true → (s : OneState) (h : HeapState) → OneStands s h →
+    ((id : ℕ) → is_live s.map id ≡ true → among (answer_by s.map (Some id)) ≡ true) → least_leftover s ≡ None →
+    ((b : ℕ) → said_at (stage_in s.cache h.objects) b ≡ says h true b) → ((b : ℕ) → says h true b ≡ answer_at s b) → AreAmong among (stage_in s.cache h.objects)
+all_such among unknown s h stands each none said right b =
+    ap among (said b ∙ right b)
+    ∙ ⊎_elim (λ out. ap (λ x. among (cond x (answer_by s.map (id_at s.map s.addresses b)) DontKnow)) out ∙ named (id_at s.map s.addresses b) refl out)
+    (λ back. ap (λ x. among (cond x (answer_by s.map (id_at s.map s.addresses b)) DontKnow)) back ∙ unknown)
     (cases_Bool (is_out s.cache b))
   where
     below : is_out s.cache b ≡ true → b < buffers_of s.cache
@@ -228,13 +229,32 @@ all_movable s h stands free none said right b =
         past (o ∷ os) zero far = absurd (omega (arith, far))
         past (o ∷ os) (suc i) far = past os i (omega (arith, far))
 
-    named : (o : Option ℕ) → id_at s.map s.addresses b ≡ o → is_out s.cache b ≡ true → is_movable (answer_by s.map o) ≡ true
+    named : (o : Option ℕ) → id_at s.map s.addresses b ≡ o → is_out s.cache b ≡ true → among (answer_by s.map o) ≡ true
     named None is out = absurd (apart (sym (ap₂ (λ x y. x && is_none y) out is) ∙ fails_from_none (buffers_of s.cache) (λ n. is_out s.cache n && is_none (id_at s.map s.addresses n)) none b (below out)))
       where
         apart : true ≡ false → ⊥
         apart e = cc
     named (Some id) is out =
         let found = (least_from_some (length s.addresses) (λ i. is_live s.map i && address_in s.addresses i == b) id is).passes in
-        let live : is_live s.map id ≡ true = (and_parts (is_live s.map id) (address_in s.addresses id == b) found).0 in
-        let is_free = free id live in
-        ap (λ x. is_movable (cond x No (cond (nat_lt 0 (tag_count s.map id)) Later Yes))) is_free.0 ∙ ap (λ n. is_movable (cond (nat_lt 0 n) Later Yes)) is_free.1
+        each id (and_parts (is_live s.map id) (address_in s.addresses id == b) found).0
+
+-- no answer but that of a record
+module _ (m : RecordMap) (id : ℕ) where
+  pub such_movable : is_fixed m id ≡ false → tag_count m id ≡ 0 → is_movable (answer_by m (Some id)) ≡ true
+  such_movable loose untagged =
+      ap (λ x. is_movable (cond x No (cond (nat_lt 0 (tag_count m id)) Later Yes))) loose ∙ ap (λ n. is_movable (cond (nat_lt 0 n) Later Yes)) untagged
+
+  pub such_now : tag_count m id ≡ 0 → is_other_than is_later (answer_by m (Some id)) ≡ true
+  such_now untagged =
+      ap (λ n. is_other_than is_later (cond (is_fixed m id) No (cond (nat_lt 0 n) Later Yes))) untagged
+      ∙ cond_both (is_fixed m id) No Yes (λ (s : Said). is_other_than is_later s ≡ true) (λ f. refl) (λ f. refl)
+
+  pub such_loose : is_fixed m id ≡ false → is_other_than is_no (answer_by m (Some id)) ≡ true
+  such_loose loose =
+      ap (λ x. is_other_than is_no (cond x No (cond (nat_lt 0 (tag_count m id)) Later Yes))) loose
+      ∙ cond_both (nat_lt 0 (tag_count m id)) Later Yes (λ (s : Said). is_other_than is_no s ≡ true) (λ f. refl) (λ f. refl)
+
+  pub such_needed : is_other_than is_dont_need (answer_by m (Some id)) ≡ true
+  such_needed =
+      cond_both (is_fixed m id) No (cond (nat_lt 0 (tag_count m id)) Later Yes) (λ (s : Said). is_other_than is_dont_need s ≡ true) (λ f. refl)
+      (λ f. cond_both (nat_lt 0 (tag_count m id)) Later Yes (λ (s : Said). is_other_than is_dont_need s ≡ true) (λ g. refl) (λ g. refl))

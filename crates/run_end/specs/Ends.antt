@@ -51,6 +51,13 @@ pub record IsWoundUp (cache : CacheView) (heap : HeapView) (cache' : CacheView) 
 abbrev pub AreAllFree : RecordMap → Type 0
 AreAllFree m = (id : ℕ) → is_live m id ≡ true → (is_fixed m id ≡ false) × (tag_count m id ≡ 0)
 
+-- how the moves of a settle end after the leftovers are freed: later only where some record has a tag, no only where some record is fixed, and
+-- never not needed
+pub record AreEndsDue (m : RecordMap) (tally : Tally) : Type 0 where
+  pub later : ((id : ℕ) → is_live m id ≡ true → tag_count m id ≡ 0) → tally.later ≡ 0
+  pub refused : ((id : ℕ) → is_live m id ≡ true → is_fixed m id ≡ false) → tally.no ≡ 0
+  pub unneeded : tally.dont_need ≡ 0
+
 -- the listed slabs are as few as can hold so many objects: their number is that of these divided by the buffers of a slab, rounded up
 pub record IsOnFewest (objects : ℕ) (s : CacheState) : Type 0 where
   pub enough : objects ≤ slab_count s * s.chunks

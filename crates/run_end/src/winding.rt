@@ -6,7 +6,7 @@ ghost use Rattle.kmem_model.specs.Heap.{StandsFor, object_at, has_record};
 ghost use Rattle.kmem_model.specs.Records.{RecordMap, live_count};
 ghost use Rattle.kmem_model.specs.Says.{stage_in, AreInBuffers};
 ghost use Rattle.kmem_model.specs.SettleWhole.{IsSettled};
-ghost use Rattle.run_end.specs.Ends.{AreAllFree, IsOnFewest, IsWoundUp};
+ghost use Rattle.run_end.specs.Ends.{AreAllFree, AreEndsDue, IsOnFewest, IsWoundUp};
 
 use crate::leftovers::free_leftovers;
 use crate::meeting::meet_all;
@@ -35,6 +35,7 @@ pub fn wind_up(cache: &mut ObjectCache<RecordKind>, heap: &mut RecordHeap) -> Ta
         out_count cache.new.state ≡ live_count m }
     ensures fewest { (m : RecordMap) (addresses : List ℕ) → StandsFor m addresses heap.old.heap → AreAllFree m →
         IsOnFewest (live_count m) cache.new.state }
+    ensures answered { (m : RecordMap) (addresses : List ℕ) → StandsFor m addresses heap.old.heap → AreEndsDue m result }
     ensures settled { IsSettled (stage_in cache.new.state heap.new.heap.objects) }
     ensures calm { has_pending cache.new.state ≡ false }
     ensures after { AreInBuffers cache.new.state heap.new.heap.objects }

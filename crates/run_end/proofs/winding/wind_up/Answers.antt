@@ -93,7 +93,7 @@ end_freed c m addresses stands =
     (together m addresses cache heap c.law_whole.ensures.whole c.requires.calm stands buffers)))
 
 end_of : (c : goal.After-law_whole-2) (m : RecordMap) (addresses : List ℕ) → StandsFor m addresses c.args.heap.now.heap →
-    Ending m addresses c.args.cache.now c.free_leftovers.new.cache c.free_leftovers.new.heap c.settle-tally.new.cache c.settle-tally.new.heap
+    Ending m addresses c.args.cache.now c.free_leftovers.new.cache c.free_leftovers.new.heap c.settle-tally.new.cache c.settle-tally.new.heap c.settle-tally.result
 end_of c m addresses stands =
     ending c.law_room.ensures.leftover c.law_stage.ensures.whole c.law_stage.ensures.said c.law_counts.ensures.out_along m addresses c.args.cache.now c.free_leftovers.new.cache c.settle-tally.new.cache
     c.args.heap.now c.free_leftovers.new.heap c.settle-tally.new.heap c.settle-tally.result (there_count c.args.heap.now.heap.objects ∙ c.requires.count) (end_freed c m addresses stands) c.settle-tally.ensures.settles
@@ -109,3 +109,6 @@ returns-clause-live c = λ m addresses stands. (end_of c m addresses stands).liv
 
 pub returns-clause-fewest : goal.returns-clause-fewest
 returns-clause-fewest c = λ m addresses stands free. (end_of c m addresses stands).fewest c.law_answers.ensures c.law_fewest.ensures free
+
+pub returns-clause-answered : goal.returns-clause-answered
+returns-clause-answered c = λ m addresses stands. (end_of c m addresses stands).answered c.law_answers.ensures
