@@ -69,7 +69,7 @@ pub record IsRunText (plan : RunPlan) (script : Plain) (text : List ℕ) : Type 
   pub history : List (ℕ × CacheEntry)
   pub report : Report
   pub of : IsHistoryOf plan.workers script records
-  pub on : IsReportOn plan (last_map plan script records) history report
+  pub on : IsReportOn plan script.lines (last_map plan script records) history report
   pub is : text ≡ run_text plan.workers script.names records (report_text report)
 
 -- what the program writes for an input, of which this holds, where it writes a text

@@ -20,13 +20,13 @@ use Rattle.kmem_model.specs.declared.cache_entry.CacheEntry.TheVariants.{Full}
 use Rattle.record_table.specs.Runs.{is_put, asks_slabs}
 use Rattle.consolidator.specs.Rounds.{IsOfMover}
 use Rattle.run_workers.specs.Workers.{is_refused, is_full_entry}
-use Rattle.hist_lock.specs.History.{entries_of}
+use Rattle.hist_lock.specs.History.{IsFront, entries_of}
 use Rattle.kmem_cache.specs.Locked.{sizes_at}
 use Rattle.kmem_cache.specs.Seats.{CacheSeatState, buffers_at}
 use Rattle.kmem_cache.specs.Closing.{CacheLogState, frees_of}
 use Rattle.record_table.specs.Tables.{object_count}
 use Rattle.record_table.specs.Sessions.{SessionState}
-use Rattle.record_table.specs.Asks.{MoverState}
+use Rattle.record_table.specs.Asks.{MoverState, AreFlagsDue}
 use Rattle.record_table.specs.Closing.{RecordLogState, all_brought, all_fetched}
 use Rattle.record_heap.specs.View.{HeapView}
 use Rattle.object_cache.specs.Cache.{CacheView}
@@ -34,6 +34,8 @@ use Rattle.object_cache.specs.declared.tally.Tally.{Tally}
 use Rattle.move_queue.specs.Queue.{pushed_by, popped_by}
 use Rattle.consolidator.specs.Tallies.{tally_sum, ends_of}
 use Rattle.run_workers.specs.declared.worker.Worker.{Worker}
+use Rattle.consolidator.specs.declared.driving.MoverPlan.{MoverPlan}
+use Rattle.run_movers.specs.declared.mover.MoverTask.{MoverTask}
 use Rattle.run_movers.specs.Histories.{AreWorkersBefore, IsOfMoversAlone}
 use Rattle.run_engine.specs.declared.plan.RunPlan.{RunPlan}
 use Rattle.run_engine.specs.declared.shared.Shared.{Shared}
@@ -41,8 +43,8 @@ use Rattle.run_engine.specs.declared.crew.Crew.{Crew}
 use Rattle.run_engine.specs.declared.parts.Parts.{Parts}
 use Rattle.run_engine.specs.Quotas.{IsInPlan, first_plan, second_plan}
 use Rattle.run_engine.specs.Opened.{IsShared}
-use Rattle.run_engine.specs.Done.{IsCrewDone, IsWorkerDone}
-use Rattle.run_engine.specs.Ran.{IsRan, IsCacheHistoryOf, AreFullsDue}
+use Rattle.run_engine.specs.Done.{IsCrewDone, IsWorkerDone, IsMoverDone}
+use Rattle.run_engine.specs.Ran.{IsRan, IsCacheHistoryOf, AreFullsDue, AreAnswersDue}
 use Rattle.run_engine.specs.Closed.{ArePartsOf, IsClosed, log_of}
 use Rattle.run_engine.proofs.Taken.{all_both, of_parts, sum_parts}
 use Rattle.run_engine.proofs.Histories.{SharedLaw, Exact, shared_all, of_workers, found_full, asked_slabs}
@@ -50,6 +52,7 @@ use Rattle.run_engine.proofs.Scans.{SumsLaw, weight_of, scans_by, pass_is, mover
 use Rattle.run_engine.proofs.States.{asked_after, still_calm, reached_sizes}
 use Rattle.run_engine.proofs.Fulls.{full_out, full_count, out_most, pending_most}
 use Rattle.run_engine.proofs.Asking.{asks_most, before_full, HasFull, find_full, none_by, none_refused}
+use Rattle.run_engine.proofs.Known.{one_due, sum_due}
 use Rattle.run_engine.proofs.Printable.{ValidLaw, WithinLaw, replies_within}
 
 pub record Laws : Type 0 where
@@ -86,6 +89,8 @@ pub record Facts (plan : RunPlan) (script : Plain) (shared : Shared) (crew : Cre
   pub counts : object_count heap.heap + all_fetched parts.sessions.items parts.movers.items ≡ all_brought parts.sessions.items parts.movers.items
   pub exact : All (λ (s : SessionState). entries_of s.pass.number records.entries ≡ s.pass.mine) parts.sessions.items
   pub silent : All (λ (m : MoverState). entries_of m.pass.number records.entries ≡ []) parts.movers.items
+  pub flags : All (λ (m : MoverState). AreFlagsDue m.flags m.pass.seen) parts.movers.items
+  pub fronts : All (λ (m : MoverState). IsFront m.pass.seen records.entries) parts.movers.items
   pub within : All (λ (e : ℕ × RecordEntry). e.0 < shared.table.count) records.entries
   pub homes : (heap.home ≡ shared.table.home.cache) × (records.home ≡ shared.table.home.cache)
   -- the close of the queue
@@ -289,6 +294,30 @@ module _ (laws : Laws) (plan : RunPlan) (script : Plain) (shared : Shared) (crew
             )));
       }
 
+  -- How moves ended
+
+  flags_are : All (λ (m : MoverState). AreFlagsDue m.flags m.pass.seen) (crew.first.mover ∷ crew.second.mover ∷ [])
+  flags_are = All-same (λ (m : MoverState). AreFlagsDue m.flags m.pass.seen) (crew.first.mover ∷ crew.second.mover ∷ []) parts.movers.items (sym f.parted.movers) f.flags
+
+  fronts_are : All (λ (m : MoverState). IsFront m.pass.seen records.entries) (crew.first.mover ∷ crew.second.mover ∷ [])
+  fronts_are = All-same (λ (m : MoverState). IsFront m.pass.seen records.entries) (crew.first.mover ∷ crew.second.mover ∷ []) parts.movers.items (sym f.parted.movers) f.fronts
+
+  due_by : (pass : ℕ) (moves : MoverPlan) (t : MoverTask) → IsMoverDone shared pass moves t → AreFlagsDue t.mover.flags t.mover.pass.seen → IsFront t.mover.pass.seen records.entries →
+      AreAnswersDue script.lines (ends_of t.tally)
+  due_by pass moves t d due front =
+      one_due records.entries script.lines history.shared t.mover.flags t.mover.pass.seen d.before.tally t.tally d.waiting.ready.tally_none due front d.moved.given
+
+  due_so : AreAnswersDue script.lines (ends_of tally)
+  due_so =
+      subst (λ (t : Tally). AreAnswersDue script.lines (ends_of t)) (sym f.tally_is)
+      (sum_due script.lines crew.first.tally crew.second.tally
+      (due_by plan.workers (first_plan plan) crew.first f.done.first
+      (All-head (λ (m : MoverState). AreFlagsDue m.flags m.pass.seen) crew.first.mover (crew.second.mover ∷ []) flags_are)
+      (All-head (λ (m : MoverState). IsFront m.pass.seen records.entries) crew.first.mover (crew.second.mover ∷ []) fronts_are))
+      (due_by (plan.workers + 1) (second_plan plan) crew.second f.done.second
+      (All-head (λ (m : MoverState). AreFlagsDue m.flags m.pass.seen) crew.second.mover [] (All-tail (λ (m : MoverState). AreFlagsDue m.flags m.pass.seen) crew.first.mover (crew.second.mover ∷ []) flags_are))
+      (All-head (λ (m : MoverState). IsFront m.pass.seen records.entries) crew.second.mover [] (All-tail (λ (m : MoverState). IsFront m.pass.seen records.entries) crew.first.mover (crew.second.mover ∷ []) fronts_are))))
+
   -- What is left
 
   count_so : count_by is_some heap.heap.objects ≡ out_count slabs.state
@@ -360,6 +389,7 @@ module _ (laws : Laws) (plan : RunPlan) (script : Plain) (shared : Shared) (crew
           passes = All-weaker (λ (e : ℕ × RecordEntry). e.0 < plan.workers) (λ (e : ℕ × RecordEntry). e.0 < 16) (λ e small. omega (arith, small, f.in_plan.workers.1)) records.entries passes_so;
           named = replies_within laws.valid laws.told laws.start (length script.names) plan.workers records.entries legal_so range_so;
         };
+        due = due_so;
         begun = ap (λ (t : Tally). t.begun) f.tally_is ∙ begun_in_all laws.sums plan.workers log.entries within_so before_so crew.first.seat.pass.mine
             crew.second.seat.pass.mine first_mine second_mine crew.first.tally crew.second.tally f.done.first.moved.tally f.done.second.moved.tally;
         ends = ap ends_of f.tally_is ∙ ended_in_all laws.sums plan.workers log.entries within_so before_so crew.first.seat.pass.mine

@@ -7,9 +7,11 @@ pub mod Histories
 pub mod Scans
 pub mod States
 pub mod Printable
+pub mod Known
 pub mod Closings
 pub mod Movers
 pub mod Reports
+pub mod Printing
 pub mod Parting
 pub mod Fulls
 pub mod Asking

@@ -1,10 +1,13 @@
 -- What is reported at the end of a run.
-use Rattle.std.proofs.Common.{◌≡◌, ℕ, true, List, is_some, refl, sym, ap, ap₂, ◌∙◌}
+use Rattle.std.proofs.Common.{◌≡◌, ℕ, true, List, length, is_some, refl, sym, ap, ap₂, ◌∙◌}
 use Rattle.kmem_text.specs.Grammar.{Plain}
 use Rattle.kmem_model.specs.CacheState.{out_count}
 use Rattle.kmem_model.specs.CacheCounts.{entries_in}
 use Rattle.kmem_model.specs.CacheScans.{is_begin}
-use Rattle.kmem_model.specs.Records.{RecordMap, live_count}
+use Rattle.kmem_model.specs.declared.record_entry.RecordEntry.{RecordEntry}
+use Rattle.kmem_model.specs.Records.{RecordMap, live_count, held_at, no_records}
+use Rattle.kmem_model.specs.History.{map_after, IsLegalHistory, has_held, has_fixed}
+use Rattle.kmem_model.specs.OneRun.{is_fixed}
 use Rattle.kmem_model.specs.Heap.{StandsFor, object_at, has_record}
 use Rattle.kmem_model.specs.Says.{stage_in, AreInBuffers}
 use Rattle.kmem_model.specs.Settle.{EndedMove}
@@ -16,12 +19,13 @@ use Rattle.object_cache.specs.Cache.{CacheView}
 use Rattle.object_cache.specs.declared.tally.Tally.{Tally}
 use Rattle.record_heap.specs.View.{HeapView}
 use Rattle.consolidator.specs.Tallies.{tally_of, ends_of}
-use Rattle.run_end.specs.Ends.{IsWoundUp, HasFreed, AreAllFree, IsOnFewest}
+use Rattle.run_end.specs.Ends.{IsWoundUp, HasFreed, AreAllFree, AreEndsDue, IsOnFewest}
 use Rattle.run_end.proofs.Settling.{together}
 use Rattle.run_engine.specs.declared.plan.RunPlan.{RunPlan}
 use Rattle.run_engine.specs.declared.closing.Closed.{Closed}
 use Rattle.run_engine.specs.Ran.{IsReportOn, last_map}
 use Rattle.run_engine.specs.Closed.{IsClosed}
+use Rattle.run_engine.proofs.Known.{settle_due}
 
 -- what a tally of moves counts is how their entries end
 pub record TallyLaw : Type 0 where
@@ -42,6 +46,13 @@ counts_all law moves = λ i. record {
   gone = law.gone moves i;
 }
 
+-- tags in use were taken, and fixed records fixed
+pub record TakenLaw : Type 0 where
+  pub held : (names workers place : ℕ) (h : List (ℕ × RecordEntry)) → IsLegalHistory (no_records names workers) h →
+      is_some (held_at (map_after (no_records names workers) h) place) ≡ true → has_held h ≡ true
+  pub fixed : (names workers id : ℕ) (h : List (ℕ × RecordEntry)) → IsLegalHistory (no_records names workers) h →
+      is_fixed (map_after (no_records names workers) h) id ≡ true → has_fixed h ≡ true
+
 -- what the end of a run shows
 pub record Wound (plan : RunPlan) (script : Plain) (closed : Closed) (slabs : CacheView) (heap : HeapView) (settled : Tally) (live : ℕ) : Type 0 where
   pub whole : IsWhole closed.slabs.state
@@ -51,14 +62,15 @@ pub record Wound (plan : RunPlan) (script : Plain) (closed : Closed) (slabs : Ca
   pub records : (b : ℕ) → is_some (object_at heap.heap b) ≡ true → has_record (object_at heap.heap b) ≡ true
   pub live_is : (m : RecordMap) (addresses : List ℕ) → StandsFor m addresses closed.heap.heap → out_count slabs.state ≡ live_count m
   pub fewest : (m : RecordMap) (addresses : List ℕ) → StandsFor m addresses closed.heap.heap → AreAllFree m → IsOnFewest (live_count m) slabs.state
+  pub answered : (m : RecordMap) (addresses : List ℕ) → StandsFor m addresses closed.heap.heap → AreEndsDue m settled
   pub done : IsSettled (stage_in slabs.state heap.heap.objects)
   pub after : AreInBuffers slabs.state heap.heap.objects
   pub told : (m : RecordMap) (addresses : List ℕ) → StandsFor m addresses heap.heap → live ≡ live_count m
 
-pub report_so : TallyLaw → (plan : RunPlan) (script : Plain) (closed : Closed) (slabs : CacheView) (heap : HeapView) (settled : Tally) (live : ℕ) →
+pub report_so : TallyLaw → TakenLaw → (plan : RunPlan) (script : Plain) (closed : Closed) (slabs : CacheView) (heap : HeapView) (settled : Tally) (live : ℕ) →
     IsClosed plan script closed → Wound plan script closed slabs heap settled live →
-    IsReportOn plan (last_map plan script closed.ran.records.entries) closed.ran.cache.entries (reported live plan.scans closed.tally settled slabs.state)
-report_so law plan script closed slabs heap settled live c w =
+    IsReportOn plan script.lines (last_map plan script closed.ran.records.entries) closed.ran.cache.entries (reported live plan.scans closed.tally settled slabs.state)
+report_so law taken plan script closed slabs heap settled live c w =
     record {
       end = c.ran.end;
       reached = c.ran.cache.reached;
@@ -91,8 +103,17 @@ report_so law plan script closed slabs heap settled live c w =
           ap (λ n. report_on slabs.state n plan.scans closed.tally.begun (ends_of closed.tally) (ends_of settled)) (w.told (last_map plan script closed.ran.records.entries) (w.stands (last_map plan script closed.ran.records.entries) c.addresses c.stands).0 (w.stands (last_map plan script closed.ran.records.entries) c.addresses c.stands).1)
           ∙ (ap (λ n. report_on slabs.state (live_count (last_map plan script closed.ran.records.entries)) plan.scans n (ends_of closed.tally) (ends_of settled)) c.begun
           ∙ ap₂ (report_on slabs.state (live_count (last_map plan script closed.ran.records.entries)) plan.scans (counted_in (entries_in closed.ran.cache.entries) is_begin)) c.ends ends);
+      moves_due = c.due;
+      settled_due =
+          settle_due closed.ran.records.entries script.lines c.ran.records.shared (length script.names) plan.workers settled c.ran.records.legal
+          (λ place. taken.held (length script.names) plan.workers place closed.ran.records.entries c.ran.records.legal)
+          (λ id. taken.fixed (length script.names) plan.workers id closed.ran.records.entries c.ran.records.legal) answered;
+      needed = answered.unneeded;
     }
   where
+    answered : AreEndsDue (last_map plan script closed.ran.records.entries) settled
+    answered = w.answered (last_map plan script closed.ran.records.entries) c.addresses c.stands
+
     freed : HasFreed (record { map = last_map plan script closed.ran.records.entries; cache = closed.slabs.state; addresses = c.addresses }) closed.slabs closed.heap w.wound_up.between w.wound_up.heap_between
     freed = w.wound_up.freed (record { map = last_map plan script closed.ran.records.entries; cache = closed.slabs.state; addresses = c.addresses })
         (together (last_map plan script closed.ran.records.entries) c.addresses closed.slabs closed.heap w.whole c.calm c.stands w.buffers)

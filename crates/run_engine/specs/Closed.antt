@@ -15,7 +15,7 @@ use Rattle.run_engine.specs.declared.plan.RunPlan.{RunPlan}
 use Rattle.run_engine.specs.declared.crew.Crew.{Crew}
 use Rattle.run_engine.specs.declared.parts.Parts.{Parts}
 use Rattle.run_engine.specs.declared.closing.Closed.{Closed}
-use Rattle.run_engine.specs.Ran.{IsRan, last_map}
+use Rattle.run_engine.specs.Ran.{IsRan, AreAnswersDue, last_map}
 
 -- what a seat of the queue has come to
 abbrev pub log_of : {X : Type 0} → QueueSeatState X → QueueLogState
@@ -42,4 +42,5 @@ pub record IsClosed (plan : RunPlan) (script : Plain) (closed : Closed) : Type 0
   pub count : count_by is_some closed.heap.heap.objects ≡ out_count closed.slabs.state
   pub printable : IsPrintable (length script.names) closed.ran.records.entries
   pub begun : closed.tally.begun ≡ counted_in (entries_in closed.ran.cache.entries) is_begin
+  pub due : AreAnswersDue script.lines (ends_of closed.tally)
   pub ends : ends_of closed.tally ≡ ends_in (entries_in closed.ran.cache.entries)

@@ -4,3 +4,4 @@ pub mod Openings
 pub mod Done
 pub mod Ran
 pub mod Closed
+pub mod Over

@@ -1,15 +1,16 @@
 -- What a run hands out, and what it prints (this project's own).
-use Rattle.std.specs.Prelude.{◌≡◌, ℕ, ◌+◌, ◌*◌, ◌++◌, ◌∷◌, ◌<◌, ◌≤◌, true, false, List, All, Some, Option, length, filter, count_by, is_some, replicate}
+use Rattle.std.specs.Prelude.{◌≡◌, ℕ, ◌+◌, ◌*◌, ◌++◌, ◌∷◌, ◌<◌, ◌≤◌, Bool, true, false, List, All, Some, Option, length, filter, count_by, is_some, replicate}
 use Rattle.std.specs.List.{sum_by}
 use Rattle.std.specs.Io.KnownBytes.{Appends}
 use Rattle.kmem_io.specs.Streams.{AppendsFront}
 use Rattle.kmem_text.specs.Grammar.{Plain}
+use Rattle.kmem_text.specs.declared.command.Command.{Command}
 use Rattle.kmem_text.specs.declared.command.Line.{Line}
 use Rattle.kmem_model.specs.declared.record_entry.RecordEntry.{RecordEntry}
 use Rattle.kmem_model.specs.declared.cache_entry.CacheEntry.{CacheEntry}
 use Rattle.kmem_model.specs.declared.cache_entry.CacheEntry.TheVariants.{Full, Scan}
 use Rattle.kmem_model.specs.Records.{RecordMap, no_records, live_count}
-use Rattle.kmem_model.specs.History.{worker_of, commands_of, map_after}
+use Rattle.kmem_model.specs.History.{worker_of, commands_of, map_after, is_hold, is_fix}
 use Rattle.kmem_model.specs.RunLines.{IsHistoryOf, run_text}
 use Rattle.kmem_model.specs.CacheState.{CacheState, sizes_of, has_pending, out_count}
 use Rattle.kmem_model.specs.CacheEnter.{is_full}
@@ -22,9 +23,10 @@ use Rattle.kmem_model.specs.Settle.{Course}
 use Rattle.kmem_model.specs.SettleMeasure.{settled}
 use Rattle.kmem_model.specs.SettleEntries.{AreEntriesOf}
 use Rattle.kmem_model.specs.SettleWhole.{IsSettled}
-use Rattle.kmem_model.specs.Report.{Report, report_on, report_text, counted_in, ends_in}
+use Rattle.kmem_model.specs.Report.{MoveCounts, Report, report_on, report_text, counted_in, ends_in}
 use Rattle.hist_lock.specs.History.{entries_of}
 use Rattle.kmem_cache.specs.Closing.{frees_of}
+use Rattle.record_table.specs.Ended.{is_drop}
 use Rattle.record_table.specs.Runs.{is_put, asks_slabs}
 use Rattle.consolidator.specs.declared.driving.MoverPlan.{MoverPlan}
 use Rattle.run_workers.specs.Workers.{is_refused, is_full_entry}
@@ -107,8 +109,18 @@ pub record IsNothingLost (m : RecordMap) (t : CacheState) : Type 0 where
   pub done : IsSettled (stage_in t heap.objects)
   pub fewest : AreAllFree m → IsOnFewest (live_count m) t
 
+-- none of these lines has such a command
+abbrev pub HasNone : (Command → Bool) → List Line → Type 0
+HasNone is lines = All (λ line. is line.command ≡ false) lines
+
+-- how moves ended is due: none by later where there is no `hold`, none by no where there is no `fix`, none by not needed where there is no `drop`
+pub record AreAnswersDue (lines : List Line) (counts : MoveCounts) : Type 0 where
+  pub later : HasNone is_hold lines → counts.later ≡ 0
+  pub refused : HasNone is_fix lines → counts.no ≡ 0
+  pub unneeded : HasNone is_drop lines → counts.dont_need ≡ 0
+
 -- What is reported is read off the cache's history, which ends here, and what follows the join
-pub record IsReportOn (plan : RunPlan) (m : RecordMap) (history : List (ℕ × CacheEntry)) (report : Report) : Type 0 where
+pub record IsReportOn (plan : RunPlan) (lines : List Line) (m : RecordMap) (history : List (ℕ × CacheEntry)) (report : Report) : Type 0 where
   pub end : CacheState
   pub reached : Reaches (sizes_of plan.slabs plan.chunks 64) history end
   pub last : CacheState
@@ -117,11 +129,15 @@ pub record IsReportOn (plan : RunPlan) (m : RecordMap) (history : List (ℕ × C
   pub kept : IsNothingLost m last
   pub is : report ≡
       report_on last (live_count m) plan.scans (counted_in (entries_in history) is_begin) (ends_in (entries_in history)) (ends_in settling)
+  pub moves_due : AreAnswersDue lines report.moves
+  pub settled_due : AreAnswersDue lines report.settled
+  -- the settle is after the leftovers are freed
+  pub needed : report.settled.dont_need ≡ 0
 
 -- the text of the history that is handed out, and of a report on it, was appended
 abbrev pub IsPrinted : RunPlan → Plain → Ran → Option (List ℕ) → Option (List ℕ) → Type 0
 IsPrinted plan script ran written written' =
-    (report : Report) × IsReportOn plan (last_map plan script ran.records.entries) ran.cache.entries report
+    (report : Report) × IsReportOn plan script.lines (last_map plan script ran.records.entries) ran.cache.entries report
     × Appends written written' (run_text plan.workers script.names ran.records.entries (report_text report))
 
 -- of such a text some front was appended
@@ -130,5 +146,5 @@ pub record IsPrintedFront (plan : RunPlan) (script : Plain) (written written' : 
   pub history : List (ℕ × CacheEntry)
   pub report : Report
   pub of : IsHistoryOf plan.workers script records
-  pub on : IsReportOn plan (last_map plan script records) history report
+  pub on : IsReportOn plan script.lines (last_map plan script records) history report
   pub front : AppendsFront written written' (run_text plan.workers script.names records (report_text report))

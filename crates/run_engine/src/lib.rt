@@ -6,6 +6,7 @@ mod crew;
 mod going;
 mod open_run;
 mod opening;
+mod over_run;
 mod parts;
 mod plan;
 mod quotas;
@@ -14,6 +15,7 @@ mod running;
 mod shared;
 
 pub use open_run::OpenRun;
+pub use over_run::OverRun;
 pub use plan::RunPlan;
 pub use ran::Ran;
 

@@ -84,6 +84,22 @@ fn two_workers_beside_each_other(rt: HostRuntime) -> Result<(), Fail> {
     Ok(())
 }
 
+// As many buffers as puts, and 64 more: no put is refused.
+#[test]
+fn room_for_all_puts(rt: HostRuntime) -> Result<(), Fail> {
+    let plan = RunPlan {
+        slabs: 9,
+        scans: 4,
+        ..TWO
+    };
+    let script = b"1 put a v\n1 put b v\n1 put c v\n1 put d v\n2 put e v\n2 put f v\n2 put g v\n2 put h v\n";
+    let done = run_with(&rt, rt.alloc(), plan, script, &Open)?;
+    let entries = done.ran.records.entries();
+    assert_eq!(rt; entries.len(), 8);
+    assert!(rt; entries.iter().all(|entry| entry.1.reply == Reply::New));
+    Ok(())
+}
+
 // A command on a name that is told by a number of two digits.
 fn push_command(text: &mut Vec<u8>, word: &[u8], number: u8, rest: &[u8]) -> Result<(), AllocError>
     requires { number ≤ 99 }

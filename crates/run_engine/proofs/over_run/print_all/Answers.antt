@@ -7,7 +7,7 @@ use Rattle.kmem_model.specs.RunLines.{replies_at, run_lines, as_lines, run_text}
 use Rattle.kmem_model.specs.Report.{report_text}
 use Rattle.kmem_report.specs.Reported.{reported}
 use Rattle.kmem_report.proofs.Left.{front_of_head, front_behind, whole_behind}
-use Rattle.run_engine.proofs.going.print_all.Goals as goal
+use Rattle.run_engine.proofs.over_run.print_all.Goals as goal
 
 pub returns-in_err-print_run-clause-front : goal.returns-in_err-print_run-clause-front
 returns-in_err-print_run-clause-front g c =
