@@ -1,5 +1,5 @@
 -- How moves ended, by what the script asks for.
-use Rattle.std.proofs.Common.{◌≡◌, ◌+◌, ◌==◌, ◌&&◌, ◌||◌, ℕ, zero, suc, Bool, true, false, List, [], ◌∷◌, map, filter, get_or, count_by, Option, Some, None, is_some, cond, refl, sym, ap, ap₂, ◌∙◌, subst, arith}
+use Rattle.std.proofs.Common.{◌≡◌, ◌+◌, ◌==◌, ◌&&◌, ◌||◌, ℕ, suc, Bool, true, false, List, [], ◌∷◌, map, filter, get_or, count_by, Option, Some, None, is_some, cond, refl, sym, ap, ap₂, ◌∙◌, subst, arith}
 use Rattle.std.specs.List.{All, AllByRecursion, list_any}
 use Rattle.std.proofs.lemmas.Bool.{cond_both, false_from_ne_true, both_ways, eq-eqb}
 use Rattle.std.proofs.lemmas.List.Sums.{sum_by-cons}
@@ -11,7 +11,6 @@ use Rattle.kmem_model.specs.declared.record_entry.RecordEntry.{RecordEntry}
 use Rattle.kmem_model.specs.Records.{RecordMap, tag_count, held_at, no_records}
 use Rattle.kmem_model.specs.CacheOrder.{is_the}
 use Rattle.kmem_model.specs.History.{worker_of, commands_of, numbered, asked_by, map_after, IsLegalHistory, IsShared, is_done, is_hold, is_fix, has_held, has_fixed}
-use Rattle.kmem_model.specs.Report.{MoveCounts}
 use Rattle.kmem_model.specs.OneRun.{is_fixed}
 use Rattle.hist_lock.specs.History.{IsFront}
 use Rattle.kmem_buf.specs.Answers.{Flags}
@@ -21,7 +20,7 @@ use Rattle.record_table.specs.Asks.{AreFlagsDue}
 use Rattle.consolidator.specs.Tallies.{tally_of, capped_sum, tally_sum, ends_of}
 use Rattle.consolidator.specs.Works.{CountsGiven}
 use Rattle.run_end.specs.Ends.{AreEndsDue}
-use Rattle.run_engine.specs.Ran.{AreAnswersDue, HasNone}
+use Rattle.run_engine.specs.Ran.{AreAnswersDue}
 
 module _ (is : Command → Bool) where
   none_numbered : (n : ℕ) (cs : List Command) → AllByRecursion (λ c. is c ≡ false) cs → AllByRecursion (λ (a : ℕ × Command). is a.1 ≡ false) (numbered n cs)

@@ -11,7 +11,7 @@ use Rattle.object_cache.specs.Cache.{CacheView}
 use Rattle.run_engine.specs.declared.plan.RunPlan.{RunPlan}
 use Rattle.run_engine.specs.declared.ran.Ran.{Ran}
 use Rattle.run_engine.specs.declared.over_run.Counts.{Counts}
-use Rattle.run_engine.specs.Over.{IsOver, OverView}
+use Rattle.run_engine.specs.Over.{IsOver}
 use Rattle.run_engine.specs.Ran.{IsPrinted, IsPrintedFront}
 
 -- the text of a run that is over

@@ -92,7 +92,8 @@ fn room_for_all_puts(rt: HostRuntime) -> Result<(), Fail> {
         scans: 4,
         ..TWO
     };
-    let script = b"1 put a v\n1 put b v\n1 put c v\n1 put d v\n2 put e v\n2 put f v\n2 put g v\n2 put h v\n";
+    let script =
+        b"1 put a v\n1 put b v\n1 put c v\n1 put d v\n2 put e v\n2 put f v\n2 put g v\n2 put h v\n";
     let done = run_with(&rt, rt.alloc(), plan, script, &Open)?;
     let entries = done.ran.records.entries();
     assert_eq!(rt; entries.len(), 8);
