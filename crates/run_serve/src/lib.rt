@@ -4,3 +4,6 @@
 mod serving;
 
 pub use serving::serve;
+
+#[cfg(test)]
+mod tests;
