@@ -1,7 +1,2 @@
-pub mod Within
-pub mod Pages
-pub mod Benches
-pub mod Freeing
-pub mod Reports
-pub mod Serves
 pub mod Running
+pub mod Making

@@ -42,7 +42,7 @@ running plan = Some (program.Run plan.slabs plan.chunks plan.workers plan.scans 
 
 -- Known bytes
 
-map_some : {X : Type 0} (o : Option X) (P Q : X → Type 0) → ((x : X) → P x → Q x) → IfSome o P → IfSome o Q
+pub map_some : {X : Type 0} (o : Option X) (P Q : X → Type 0) → ((x : X) → P x → Q x) → IfSome o P → IfSome o Q
 map_some None P Q on p = tt
 map_some (Some x) P Q on p = on x p
 
@@ -52,28 +52,28 @@ both_some (Some x) P Q R on p q = on x p q
 
 -- Endings and results
 
-ok_err : (r : Ran) (f : Fault) → IsErrOf {T = Ran} (Ok r) f → ⊥
+pub ok_err : (r : Ran) (f : Fault) → IsErrOf {T = Ran} (Ok r) f → ⊥
 ok_err r f e = cc
 
-fine_failed : (f : Fault) → Fine ≡ Failed f → ⊥
+pub fine_failed : (f : Fault) → Fine ≡ Failed f → ⊥
 fine_failed f e = cc
 
-failed_usage : (f : Fault) → Failed f ≡ Usage → ⊥
+pub failed_usage : (f : Fault) → Failed f ≡ Usage → ⊥
 failed_usage f e = cc
 
-fine_usage : Fine ≡ Usage → ⊥
+pub fine_usage : Fine ≡ Usage → ⊥
 fine_usage e = cc
 
 none_running : (plan : RunPlan) → IsNone (running plan) → ⊥
 none_running plan e = cc
 
-failed_one : (f k : Fault) → Failed f ≡ Failed k → f ≡ k
+pub failed_one : (f k : Fault) → Failed f ≡ Failed k → f ≡ k
 failed_one f k e = cc
 
-err_one : (f k : Fault) → IsErrOf {T = Ran} (Err f) k → f ≡ k
+pub err_one : (f k : Fault) → IsErrOf {T = Ran} (Err f) k → f ≡ k
 err_one f k e = cc
 
-one_err : (f k : Fault) → f ≡ k → IsErrOf {T = Ran} (Err f) k
+pub one_err : (f k : Fault) → f ≡ k → IsErrOf {T = Ran} (Err f) k
 one_err f k e = ap Err e
 
 limit_read : Limit ≡ Read → ⊥
@@ -96,6 +96,7 @@ module _ (plan : RunPlan) (input out : Stream) where
       record {
         text = λ fine. both_some input.known _ _ _ written s.ran s.text;
         end = λ fine. s.end;
+        unread = λ making. absurd making;
         usage = (λ e. absurd (fine_usage e), λ none. absurd (none_running plan none));
         read_fault = (λ e. absurd (fine_failed Read e), λ rose. absurd (ok_err r Read (s.read.1 rose)));
         limit = λ e. absurd (fine_failed Limit e);
@@ -132,6 +133,7 @@ module _ (plan : RunPlan) (input out : Stream) where
       record {
         text = λ e. absurd (fine_failed f (sym e));
         end = λ e. absurd (fine_failed f (sym e));
+        unread = λ making. absurd making;
         usage = (λ e. absurd (failed_usage f e), λ none. absurd (none_running plan none));
         read_fault = (λ e. s.read.0 (one_err f Read (failed_one f Read e)), λ rose. ap Failed (err_one f Read (s.read.1 rose)));
         limit = λ e. at Limit (failed_one f Limit e) limit_read limit_write;

@@ -6,9 +6,7 @@ ghost use Rattle.kmem_io.specs.Streams.{CanRise};
 ghost use Rattle.command_line.specs.Programs.{program_of};
 ghost use Rattle.kmemrun.specs.Runs.{stream, IsRunOrWanting, IsRefusal};
 
-mod bench;
 mod fault;
-mod one;
 mod status;
 mod top;
 

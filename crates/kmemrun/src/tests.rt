@@ -1,4 +1,5 @@
 //! Runs over streams in memory.
+mod faults;
 mod settles;
 
 use crate::Open;
@@ -16,6 +17,33 @@ struct Shown {
     status: Status,
     out: MemSink,
     err: MemSink,
+}
+
+/// How the streams of a run fail: at which calls the input does, and how many bytes there is room for in the output and in the line.
+#[derive(Drop)]
+struct Streams<'a> {
+    reads: &'a [u32],
+    out: usize,
+    err: usize,
+}
+
+/// A run whose streams give and take a byte a call.
+fn run_by_bytes<T: Wait + Threads + Sync>(
+    rt: &T,
+    alloc: Global,
+    words: &[&str],
+    input: &[u8],
+    streams: Streams<'_>,
+) -> Result<Shown, Fail> {
+    let mut source = MemSource::create(alloc, input, 1, streams.reads)?;
+    let mut out = MemSink::create(alloc, streams.out, 1, &[])?;
+    let mut err = MemSink::create(alloc, streams.err, 1, &[])?;
+    let ended = top(rt, alloc, words, &mut source, &mut out, &mut err, &Open);
+    Ok(Shown {
+        status: ended.status,
+        out,
+        err,
+    })
 }
 
 /// A run whose streams take and give what they are asked.
@@ -171,6 +199,8 @@ fn usage(rt: HostRuntime) -> Result<(), Fail> {
     assert!(rt; refused(&rt, rt.alloc(), &["one", "2", "2", "1", "1"])?);
     assert!(rt; refused(&rt, rt.alloc(), &["run", "8", "8", "2", "1", "mild"])?);
     assert!(rt; refused(&rt, rt.alloc(), &["run", "8", "8", "+2", "1"])?);
+    assert!(rt; refused(&rt, rt.alloc(), &["gen", "0", "1"])?);
+    assert!(rt; refused(&rt, rt.alloc(), &["gen", "0", "1", "60001"])?);
     assert!(rt; refused(&rt, rt.alloc(), &["check"])?);
     assert!(rt; refused(&rt, rt.alloc(), &["check", "0"])?);
     assert!(rt; refused(&rt, rt.alloc(), &["check", "17"])?);

@@ -8,13 +8,14 @@ ghost use Rattle.run_engine.specs.Quotas.{IsInPlan};
 ghost use Rattle.kmemrun.specs.Endings.{ending_status};
 ghost use Rattle.kmemrun.specs.Runs.{stream, Ends, HandsOut, Tells, IsRun, IsRunOrWanting};
 
-use crate::one::serve_one;
 use crate::status::{Ended, Ending, Status};
 use command_line::{Program, program_of};
 use kmem_io::{Gate, Sink, Source};
 use kmem_model::Plan;
 use run_check::check;
 use run_engine::{Ran, RunPlan};
+use run_made::made;
+use run_one::serve_one;
 use run_serve::serve;
 use std::alloc::Global;
 use std::sync::Wait;
@@ -132,6 +133,13 @@ fn carry_out<T: Wait + Threads + Sync, R: Source, W: Sink, G: Gate>(
             };
             carry_out_run(rt, alloc, plan, input, out, gate)
         }
+        Some(
+            Program::Gen {
+                seed,
+                workers,
+                commands,
+            },
+        ) => carry_out_made(rt, alloc, seed, workers, commands, input, out, gate),
     }
 }
 
@@ -171,6 +179,38 @@ fn carry_out_run<T: Wait + Threads + Sync, R: Source, W: Sink, G: Gate>(
         (stream R.left R.faults input.old input.new) (stream W.written W.faults out.old out.new) result.ending result.ran }
 {
     match serve(rt, alloc, plan, input, out, gate) {
+        Ok(ran) => Outcome {
+            ending: Ending::Fine,
+            ran: Some(ran),
+        },
+        Err(fault) => Outcome {
+            ending: Ending::Failed(fault),
+            ran: None,
+        },
+    }
+}
+
+/// Runs a script that is made from a seed. Reads nothing.
+fn carry_out_made<T: Wait + Threads + Sync, R: Source, W: Sink, G: Gate>(
+    rt: &T,
+    alloc: Global,
+    seed: u32,
+    workers: u32,
+    commands: u32,
+    input: &mut R,
+    out: &mut W,
+    gate: &G,
+) -> Outcome
+    requires workers { (1 ≤ workers) × (workers ≤ 16) }
+    requires commands { commands ≤ 60000 }
+    requires out { CanRise (W.faults out.old) }
+    ensures ends { Ends (Some (Program.Gen seed workers commands))
+        (stream R.left R.faults input.old input.new) (stream W.written W.faults out.old out.new) result.ending }
+    ensures hands { HandsOut (Some (Program.Gen seed workers commands))
+        (stream R.left R.faults input.old input.new) (stream W.written W.faults out.old out.new) result.ending result.ran }
+{
+    let _ = input;
+    match made(rt, alloc, u64::from(seed), workers, commands, out, gate) {
         Ok(ran) => Outcome {
             ending: Ending::Fine,
             ran: Some(ran),
