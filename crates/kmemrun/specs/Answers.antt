@@ -1,5 +1,5 @@
 -- What a run of the program writes, or which status it ends with, by its words and its input (this project's own rule).
-use Rattle.std.specs.Prelude.{◌≡◌, ℕ, Bool, false, List, [], All, Option, Some, None, IsOk, IsOkAnd, IsErrOf, IfSome}
+use Rattle.std.specs.Prelude.{◌≡◌, ℕ, Bool, false, List, [], All, length, Option, Some, None, IsOk, IsOkAnd, IsErrOf, IfSome}
 use Rattle.std.specs.Io.KnownBytes.{Appends, IsAtEnd}
 use Rattle.kmem_text.specs.Grammar.{Plain, script_of, first_bad_of}
 use Rattle.kmem_text.specs.declared.spelling.LineFault.{LineFault}
@@ -110,7 +110,7 @@ IsRunning (Some (program.Gen seed workers commands)) = Unit {0}
 IsRunning _ = ⊥
 
 -- the histories are those of a run of the input's script, and the text of the first, with a report on the second, was appended; or those of a
--- run of the made script, in which nothing is refused, and the summary of the first was appended
+-- run of the made script, which has an entry for each command and in which nothing is refused, and the summary of the first was appended
 abbrev pub IsHandedOut : Option Program → List ℕ → Ran → Option (List ℕ) → Option (List ℕ) → Type 0
 IsHandedOut (Some (program.Run slabs chunks workers scans desperate)) bytes ran written written' =
     IsRan (run_plan slabs chunks workers scans desperate) (script_of workers bytes) ran
@@ -118,6 +118,7 @@ IsHandedOut (Some (program.Run slabs chunks workers scans desperate)) bytes ran 
 IsHandedOut (Some (program.Gen seed workers commands)) bytes ran written written' =
     IsRan (made_plan workers) (made seed workers commands) ran
     × Appends written written' (summary_of workers (made seed workers commands) ran.records.entries)
+    × (length ran.records.entries ≡ commands)
     × All (λ e. is_refused e.1 ≡ false) ran.records.entries
     × (workers ≡ 1 → ran.records.entries ≡ alone_records (made seed 1 commands))
 IsHandedOut _ bytes ran written written' = ⊥

@@ -1,2 +1,3 @@
 pub mod Alone
+pub mod Totals
 pub mod Summing

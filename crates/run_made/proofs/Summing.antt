@@ -5,6 +5,7 @@ use Rattle.std.proofs.lemmas.List.FromFn.{length-map-range_with_len}
 use Rattle.std.proofs.lemmas.List.Sums.{count_by-le-length}
 use Rattle.std.proofs.lemmas.List.Elements.{recursion_from_All}
 use Rattle.kmem_text.specs.Grammar.{Plain}
+use Rattle.kmem_text.specs.Scripts.{IsScript}
 use Rattle.kmem_text.specs.declared.command.Line.{Line}
 use Rattle.kmem_model.specs.declared.record_entry.RecordEntry.{RecordEntry}
 use Rattle.kmem_model.specs.Records.{no_records, live_count}
@@ -18,6 +19,7 @@ use Rattle.run_engine.specs.declared.ran.Ran.{Ran}
 use Rattle.run_engine.specs.Ran.{IsRan, last_map}
 use Rattle.run_made.specs.Making.{made_plan, alone_records, summary_of}
 use Rattle.run_made.proofs.Alone.{alone_so}
+use Rattle.run_made.proofs.Totals.{as_many}
 
 -- the run is that of the plan and the script that were opened
 pub ran_is : (p q : RunPlan) (s t : Plain) (r r' : Ran) → p ≡ q → s ≡ t → r' ≡ r → IsRan p s r → IsRan q t r'
@@ -35,6 +37,10 @@ text_is workers p s t r r' entries live plan script same is many =
 module _ (seed workers commands : ℕ) where
   lines_many : length (made seed workers commands).lines ≡ commands
   lines_many = length-map (made_lines seed workers commands) _ ∙ length-map-range_with_len (made_line seed workers) 0 commands
+
+  -- each command has its entry
+  pub many_so : (r : Ran) → IsScript workers (made seed workers commands) → IsRan (made_plan workers) (made seed workers commands) r → length r.records.entries ≡ commands
+  many_so r of is = as_many workers r.records.entries (made seed workers commands).lines is.within of.workers is.records.shared ∙ lines_many
 
   -- there is room for all puts
   pub roomy_so : (r : Ran) → commands ≤ 60000 → IsRan (made_plan workers) (made seed workers commands) r → All (λ (e : ℕ × RecordEntry). is_refused e.1 ≡ false) r.records.entries

@@ -1,8 +1,9 @@
 //! A script that is made from a seed, run on threads and summed up.
 
-ghost use Rattle.std.specs.Prelude.{◌≡◌, ◌≢◌, ◌<◌, ◌≤◌, ◌↔◌, All, false, IfOk, OnOk, IfErr, IsErrOf};
+ghost use Rattle.std.specs.Prelude.{◌≡◌, ◌≢◌, ◌<◌, ◌≤◌, ◌↔◌, All, false, length, IfOk, OnOk, IfErr, IsErrOf};
 ghost use Rattle.std.specs.Io.KnownBytes.{Appends, Keeps};
 ghost use Rattle.kmem_io.specs.Streams.{CanRise, AppendsFront};
+ghost use Rattle.kmem_text.specs.Scripts.{IsScript};
 ghost use Rattle.generator.specs.Made.{made};
 ghost use Rattle.run_workers.specs.Workers.{is_refused};
 ghost use Rattle.run_engine.specs.Ran.{IsRan};
@@ -32,10 +33,12 @@ pub fn made<T: Wait + Threads + Sync, W: Sink, G: Gate>(
     requires commands { commands ≤ 60000 }
     requires out { CanRise (W.faults out.old) }
 
-    // What is handed out and written: the history of a run of the seed's script, in which nothing is refused, and its summary.
+    // What is handed out and written: the history of a run of the seed's script, in which nothing is refused, with an entry for
+    // each command, and its summary.
     ensures ran { IfOk result (λ ran. IsRan (made_plan workers) (made seed workers commands) ran) }
     ensures text { IfOk result (λ ran. Appends (W.written out.old) (W.written out.new)
         (summary_of workers (made seed workers commands) ran.records.entries)) }
+    ensures many { IfOk result (λ ran. length ran.records.entries ≡ commands) }
     ensures roomy { IfOk result (λ ran. All (λ e. is_refused e.1 ≡ false) ran.records.entries) }
     // With one worker there is but one such history.
     ensures alone { workers ≡ 1 → IfOk result (λ ran. ran.records.entries ≡ alone_records (made seed 1 commands)) }
@@ -60,6 +63,7 @@ fn open_made(alloc: Global, seed: u64, workers: u32, commands: u32) -> Result<Op
     requires commands { commands ≤ 60000 }
     ensures plan { IfOk result (λ run. run.plan ≡ made_plan workers) }
     ensures script { IfOk result (λ run. run.script ≡ made seed workers commands) }
+    ensures whole { OnOk result (IsScript workers (made seed workers commands)) }
     ensures fault { IfErr result (λ fault. fault ≡ Fault.NoMemory) }
 {
     let plan = RunPlan {

@@ -4,7 +4,7 @@ use Rattle.kmem_io.specs.Streams.{AppendsFront}
 use Rattle.generator.specs.Made.{made}
 use Rattle.run_engine.specs.Ran.{IsRan}
 use Rattle.run_made.specs.Making.{made_plan}
-use Rattle.run_made.proofs.Summing.{ran_is, text_is, roomy_so, alone_made}
+use Rattle.run_made.proofs.Summing.{ran_is, text_is, many_so, roomy_so, alone_made}
 use Rattle.run_made.proofs.making.made.Goals as goal
 
 pub returns-in-Ok-clause-text : goal.returns-in-Ok-clause-text
@@ -14,6 +14,11 @@ returns-in-Ok-clause-text g c =
     c.entries.result.now c.live.result (c.carry_out-over.ensures.plan ∙ c.in_ok-run.ensures.plan) (c.carry_out-over.ensures.script ∙ c.in_ok-run.ensures.script)
     c.into_ran.ensures c.entries.ensures c.live.ensures)
     c.in-Ok.ensures.whole
+
+pub returns-in-Ok-clause-many : goal.returns-in-Ok-clause-many
+returns-in-Ok-clause-many g c = many_so c.args.seed c.args.workers c.args.commands c.into_ran.result c.in_ok-run.ensures.whole
+    (ran_is c.in_ok-run.run'.plan (made_plan c.args.workers) c.in_ok-run.run'.script (made c.args.seed c.args.workers c.args.commands)
+    c.carry_out-over.result.ran c.into_ran.result c.in_ok-run.ensures.plan c.in_ok-run.ensures.script c.into_ran.ensures c.carry_out-over.ensures.ran)
 
 pub returns-in-Ok-clause-roomy : goal.returns-in-Ok-clause-roomy
 returns-in-Ok-clause-roomy g c = roomy_so c.args.seed c.args.workers c.args.commands c.into_ran.result c.requires.commands
