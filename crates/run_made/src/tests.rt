@@ -1,4 +1,5 @@
 //! Made runs.
+ghost use Rattle.std.specs.Prelude.{◌≤◌};
 
 use crate::made;
 use kmem_io::{Gate, MemSink};

@@ -9,7 +9,9 @@ const SCRIPT: &[u8] = b"1 put a x\n1 get a\n";
 
 #[test]
 fn an_opened_run(rt: HostRuntime) -> Result<(), Fail> {
-    let script = read_script(rt.alloc(), SCRIPT, 16).ok().ok_or("a script")?;
+    let Ok(script) = read_script(rt.alloc(), SCRIPT, 16) else {
+        return Err(Fail::from("a script"));
+    };
     let run = OpenOne::create(rt.alloc(), 2, 2, None, script)?;
     let mut out = MemSink::create(rt.alloc(), 64, 64, &[])?;
     assert!(rt; run.go(&mut out).is_ok());

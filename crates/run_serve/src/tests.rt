@@ -1,10 +1,12 @@
 //! Many small runs on threads, each of which `check` finds legal.
-ghost use Rattle.std.specs.Prelude.{◌≤◌};
+ghost use Rattle.std.specs.Prelude.{◌≤◌, length};
+ghost use Rattle.kmem_text.specs.Grammar.{IsWithinNames};
 ghost use Rattle.run_engine.specs.Quotas.{IsInPlan};
 
 use crate::serve;
 use generator::{generate, write_line};
 use kmem_io::{Gate, MemSink, MemSource};
+use kmem_text::{Line, Script};
 use run_check::check;
 use run_engine::RunPlan;
 use std::alloc::{AllocError, Global};
@@ -25,12 +27,21 @@ fn made_text(alloc: Global, seed: u64, workers: u32) -> Result<Vec<u8>, AllocErr
 {
     let script = generate(alloc, seed, workers, 300)?;
     let mut text = Vec::new(alloc);
-    let mut room = [0; 640];
-    for line in &script.lines {
-        let len = write_line(&script, line, &mut room);
-        text.extend_from_slice(&room[..len])?;
+    for index in 0..script.lines.len() {
+        push_line(&script, &script.lines[index], &mut text)?;
     }
     Ok(text)
+}
+
+fn push_line(script: &Script, line: &Line, text: &mut Vec<u8>) -> Result<(), AllocError>
+    requires names { IsWithinNames (length script.now.names.items) line.now.command }
+{
+    let mut room = [0; 640];
+    let len = write_line(script, line, &mut room);
+    if let Some(piece) = room.get(..len) {
+        text.extend_from_slice(piece)?;
+    }
+    Ok(())
 }
 
 // Runs a script, and gives it with the printed run behind it to `check`.
