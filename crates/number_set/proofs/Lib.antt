@@ -1,0 +1,4 @@
+pub mod Masks
+pub mod Down
+pub mod Flags
+pub mod Rising
