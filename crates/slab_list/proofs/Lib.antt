@@ -1,5 +1,10 @@
 pub mod Rows
 pub mod Steps
 pub mod Whole
-pub mod Found
+pub mod Binned
+pub mod Indexed
+pub mod Orders
+pub mod Counted
+pub mod Scanned
+pub mod Rest
 pub mod Choices

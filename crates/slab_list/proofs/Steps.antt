@@ -16,7 +16,7 @@ use Rattle.kmem_model.specs.CacheEnter.{slab_listed, slab_taken, slab_freed, sla
 use Rattle.kmem_model.specs.declared.cache_state.Standing.{Standing}
 use Rattle.kmem_model.specs.declared.cache_state.Standing.TheVariants.{Source, Listed, Dead}
 use Rattle.slab_list.specs.declared.line.Line.{Line}
-use Rattle.slab_list.specs.Lines.{row_at, slab_of, slabs_of, IsLine, IsListKept, line_freed}
+use Rattle.slab_list.specs.Lines.{row_at, slab_of, slabs_of, IsLine, IsListKept, line_freed, line_unmarked}
 use Rattle.slab_list.specs.Slabs.{ListState, on_slab, on_buffer, fresh_slab}
 use Rattle.slab_list.proofs.Rows.{row_within, slab_at-slabs_of, length-row_at, get_or-row_at, IsAt, at, out_by_cell, slabs_of-line, slabs_of-cell, homes_kept}
 
@@ -44,7 +44,7 @@ out_within slabs i k out =
     (cases_lt i (length slabs))
 
 -- what a listed slab is
-listed_is : (t : Standing) → is_same_standing Listed t ≡ true → t ≡ Listed
+pub listed_is : (t : Standing) → is_same_standing Listed t ≡ true → t ≡ Listed
 listed_is Source e = absurd (both_ways false refl e)
 listed_is Listed e = refl
 listed_is Dead e = absurd (both_ways false refl e)
@@ -132,6 +132,10 @@ module _ (chunks : ℕ) (cells : List CellState) (lines : List Line) (kept : IsL
           blank = λ _. (line_kept.counted ∙ idle, refl, refl);
           stuck = λ k e. absurd (cc);
         }
+
+    pub unmark_line : IsLine chunks (line_unmarked x) its_row
+    unmark_line =
+        record { counted = line_kept.counted; blank = λ idle. ((line_kept.blank idle).0, refl, refl); stuck = λ k e. absurd (cc) }
 
     pub back_line : is_dead (slab_of x its_row) ≡ true →
         IsLine chunks (record { standing = Source; used = x.used; later = x.later; stuck = x.stuck }) its_row

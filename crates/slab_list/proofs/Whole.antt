@@ -1,4 +1,4 @@
--- All lines at once: those of a new list, and those without counts and marks.
+-- All lines of a new list.
 use Rattle.std.proofs.Common.{◌≡◌, ℕ, ◌+◌, ◌*◌, ◌<◌, ◌≤◌, Bool, false, cond, List, [], ◌∷◌, map, length, get_or, take, drop, replicate, count_by, sym, ◌∙◌, ap, refl, arith, subst, mul-zero}
 use Rattle.std.proofs.lemmas.List.{length-map, get_or-map, ext_get_or, length-replicate, get_or-replicate}
 use Rattle.std.proofs.lemmas.List.Folds.{sum_by-replicate}
@@ -9,26 +9,6 @@ use Rattle.kmem_model.specs.CacheEnter.{unmarked}
 use Rattle.slab_list.specs.declared.line.Line.{Line}
 use Rattle.slab_list.specs.Lines.{row_at, slab_of, slabs_of, IsLine, IsListKept, AreCellsFree, line_unmarked, line_in_source}
 use Rattle.slab_list.proofs.Rows.{length-slabs_of, slab_at-slabs_of, length-row_at, get_or-row_at, row_within}
-
-pub slabs_unmarked : (chunks : ℕ) (cells : List CellState) (lines : List Line) →
-    slabs_of chunks cells (map line_unmarked lines) ≡ map unmarked (slabs_of chunks cells lines)
-slabs_unmarked chunks cells [] = refl
-slabs_unmarked chunks cells (l ∷ ls) =
-    ap (λ (slabs : List SlabState). unmarked (slab_of l (take chunks cells)) ∷ slabs) (slabs_unmarked chunks (drop chunks cells) ls)
-
-pub kept_unmarked : (chunks : ℕ) (cells : List CellState) (lines : List Line) → IsListKept chunks cells lines → IsListKept chunks cells (map line_unmarked lines)
-kept_unmarked chunks cells lines kept =
-    record {
-      some = kept.some;
-      few = kept.few;
-      whole = kept.whole ∙ ap (λ n. n * chunks) (sym (length-map lines line_unmarked));
-      numbered = kept.numbered;
-      each = λ i d inside.
-          let below : i < length lines = omega (arith, length-map lines line_unmarked, inside) in
-          let old : IsLine chunks (get_or lines i d) (row_at chunks cells i) = kept.each i d below in
-          subst (λ l. IsLine chunks l (row_at chunks cells i)) (sym (get_or-map line_unmarked lines i d d below))
-          (record { counted = old.counted; blank = λ idle. ((old.blank idle).0, refl, refl); stuck = λ k e. absurd (cc) });
-    }
 
 -- free cells, and lines of slabs in the source
 module _ (chunks slabs : ℕ) (cells : List CellState) (some : 0 < chunks) (few : slabs * chunks ≤ 65536) (size : length cells ≡ slabs * chunks) (free : AreCellsFree cells) where

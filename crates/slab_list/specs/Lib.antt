@@ -1,3 +1,3 @@
 pub mod Slabs
 pub mod Lines
-pub mod Search
+pub mod Bins

@@ -1,10 +1,14 @@
 //! What is kept of one slab beside the cells of its buffers.
-ghost use Rattle.std.specs.Prelude.{◌≡◌, ◌<◌, List};
+ghost use Rattle.std.specs.Prelude.{◌≡◌, ◌≤◌, ◌<◌, ◌&&◌, ◌||◌, ◌==◌, not, is_some, IfSome, List, if◌then◌else◌};
 ghost use Rattle.kmem_buf.specs.Buffers.{CellState};
+ghost use Rattle.kmem_model.specs.CacheState.{is_same_standing};
 ghost use Rattle.kmem_model.specs.CacheOrder.{is_the};
 ghost use Rattle.kmem_model.specs.CacheEnter.{slab_later, slab_never};
+ghost use Rattle.kmem_model.specs.declared.cache_state.Standing.TheVariants.{Listed, Dead};
+ghost use Rattle.slab_list.specs.Bins.{bin_at};
 ghost use Rattle.slab_list.specs.Lines.{slab_of, line_freed, line_in_source, line_unmarked};
 
+use crate::index::{DEAD, UNUSED};
 use kmem_model::Standing;
 
 // A mark comes with this count.
@@ -81,5 +85,71 @@ impl Line {
         ensures used { self.new.used ≡ self.old.used }
     {
         self.stuck = self.stuck.or(Some(index));
+    }
+
+    /// The bin of its slab, if it has one.
+    pub fn bin(&self, chunks: u32) -> Option<u32>
+        requires { chunks ≤ 64 }
+        ensures bin { result ≡ bin_at chunks self.now.standing self.now.used (is_some self.now.stuck) }
+        ensures range { IfSome result (λ b. b < 130) }
+    {
+        match self.standing {
+            Standing::Source => None,
+            Standing::Dead => Some(DEAD),
+            Standing::Listed => self.listed_bin(chunks),
+        }
+    }
+
+    fn listed_bin(&self, chunks: u32) -> Option<u32>
+        requires { chunks ≤ 64 }
+        ensures bin { result ≡ bin_at chunks Listed self.now.used (is_some self.now.stuck) }
+        ensures range { IfSome result (λ b. b < 130) }
+    {
+        let used = self.used;
+        if used >= chunks {
+            None
+        } else if used == 0 {
+            Some(UNUSED)
+        } else if self.stuck.is_some() {
+            Some(63 - used)
+        } else {
+            Some(127 - used)
+        }
+    }
+
+    /// Whether it has a count or a mark.
+    pub fn is_noted(&self) -> bool
+        ensures { result ≡ (not (self.now.later == 0) || is_some self.now.stuck) }
+    {
+        self.later != 0 || self.stuck.is_some()
+    }
+
+    /// 1 where the slab is listed.
+    pub fn listed(&self) -> u32
+        ensures { result ≡ (if is_same_standing Listed self.now.standing then 1 else 0) }
+    {
+        if self.standing == Standing::Listed {
+            1
+        } else {
+            0
+        }
+    }
+
+    /// 1 where the slab is listed with no buffer out.
+    pub fn unused(&self) -> u32
+        ensures { result ≡ (if is_same_standing Listed self.now.standing && self.now.used == 0 then 1 else 0) }
+    {
+        if self.used == 0 { self.listed() } else { 0 }
+    }
+
+    /// 1 where the slab is dead.
+    pub fn dead(&self) -> u32
+        ensures { result ≡ (if is_same_standing Dead self.now.standing then 1 else 0) }
+    {
+        if self.standing == Standing::Dead {
+            1
+        } else {
+            0
+        }
     }
 }

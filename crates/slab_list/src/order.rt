@@ -1,13 +1,16 @@
 //! The order in which slabs serve, and the choices by it.
-ghost use Rattle.std.specs.Prelude.{◌≡◌, ◌<◌, ◌*◌, ◌+◌, ◌/◌, ◌%◌, ◌&&◌, ◌==◌, ◌||◌, not, nat_lt, ℕ, Bool, true, false, All, ◌↔◌, Option, Some, None, IfSome, is_some, length, option_map, slice_index_or, if◌then◌else◌};
+ghost use Rattle.std.specs.Prelude.{◌≡◌, ◌<◌, ◌*◌, ◌+◌, ◌/◌, ◌%◌, ◌&&◌, ◌==◌, ◌||◌, ◌≤◌, ◌^◌, not, nat_lt, ℕ, Bool, true, false, All, ◌↔◌, Option, Some, None, IfSome, MatchOption, is_some, length, option_map, slice_index_or, if◌then◌else◌};
 ghost use Rattle.kmem_model.specs.CacheState.{SlabState, slab_at, is_listed, is_dead, used, free_buffers, is_out_on};
-ghost use Rattle.kmem_model.specs.CacheOrder.{least_below, foremost, is_the, is_partial, is_marked, is_fuller, comes_before, first_partial, least_free, first_of_slab, is_reclaimable, least_to_move, last_reclaimable};
+ghost use Rattle.kmem_model.specs.CacheOrder.{least_below, IsLeastBelow, foremost, is_the, is_partial, is_marked, comes_before, first_partial, least_free, first_of_slab, is_reclaimable, least_to_move, last_reclaimable};
+ghost use Rattle.kmem_model.specs.Settle.{is_open_slab, is_rest_marked};
 ghost use Rattle.slab_list.specs.Slabs.{IsListWhole, IsFree, slab_with, is_out_in, free_next, is_unused, mode_of};
-ghost use Rattle.slab_list.specs.Search.{goes_before};
+ghost use Rattle.slab_list.specs.Bins.{bin_of};
 
+use crate::index::{DEAD, PLACES, UNUSED};
 use crate::list::SlabList;
 use kmem_buf::Kind;
 use kmem_model::law_order;
+use number_set::Steps;
 
 // What a scan may ask about.
 #[derive(Clone, Copy)]
@@ -26,7 +29,8 @@ impl<K: Kind> SlabList<K> {
         ensures none { (result ≡ None) ↔ All (λ slab. is_listed slab ≡ true → free_buffers slab ≡ 0) self.now.slabs }
     {
         law_order();
-        match self.first_partial() {
+        self.law_whole();
+        match self.first_partial(&mut Steps::create()) {
             Some(slab) => self.least_free(slab),
             None => self.first_unused(),
         }
@@ -44,10 +48,27 @@ impl<K: Kind> SlabList<K> {
         let rule = Rule {
             numer,
             desperate,
-            first: self.first_partial(),
+            first: self.first_partial(&mut Steps::create()),
         };
         let slab = self.last_to_ask(rule, skip)?;
         self.least_to_move(rule, skip, slab)
+    }
+
+    /// The first partial slab. It is found by at most four steps.
+    pub fn first_partial(&self, steps: &mut Steps) -> Option<u32>
+        requires { steps.old < 2 ^ 62 }
+        ensures first { result ≡ first_partial self.now.slabs }
+        ensures steps { steps.new ≤ steps.old + 4 }
+        ensures range { IfSome result (λ slab. slab < length self.now.slabs) }
+    {
+        law_order();
+        self.law_whole();
+        let place = self.first_place(steps)?;
+        if place / PLACES < UNUSED {
+            Some(place % PLACES)
+        } else {
+            None
+        }
     }
 
     /// The number of the least dead slab.
@@ -55,12 +76,45 @@ impl<K: Kind> SlabList<K> {
         ensures { result ≡ least_below (length self.now.slabs) (λ i. is_dead (slab_at self.now.slabs i)) }
     {
         law_order();
-        for slab in 0..self.slabs() {
-            if self.is_dead(slab) {
-                return Some(slab);
-            }
+        self.law_whole();
+        self.first_in(DEAD)
+    }
+
+    /// Whether every partial slab after the first has a mark. Only the last one is looked at: where it has none and isn't the first, it is one
+    /// without a mark itself, and else all others have a mark.
+    pub fn is_rest_marked(&self) -> bool
+        ensures { result ≡ is_rest_marked self.now.slabs }
+    {
+        law_order();
+        self.law_whole();
+        match self.place_before(UNUSED * PLACES) {
+            Some(place) => !self.is_open(place % PLACES),
+            None => true,
         }
-        None
+    }
+
+    // Whether the slab is partial and has no mark, and isn't the first partial one.
+    fn is_open(&self, slab: u32) -> bool
+        requires { slab < length self.now.slabs }
+        ensures { result ≡ is_open_slab self.now.slabs slab }
+    {
+        let first = self.first_partial(&mut Steps::create());
+        self.is_partial(slab) && !self.is_marked(slab) && !is_this(first, slab)
+    }
+
+    // The least slab of a bin whose slabs stand by their numbers.
+    fn first_in(&self, bin: u32) -> Option<u32>
+        requires { (0 < bin) × (bin < 130) }
+        ensures { MatchOption result ((i : ℕ) → i < length self.now.slabs → is_the (bin_of self.now.chunks (slab_at self.now.slabs i)) bin ≡ false)
+            (IsLeastBelow (length self.now.slabs) (λ i. is_the (bin_of self.now.chunks (slab_at self.now.slabs i)) bin)) }
+    {
+        self.law_whole();
+        let place = self.place_after(bin * PLACES - 1)?;
+        if place / PLACES == bin {
+            Some(place % PLACES)
+        } else {
+            None
+        }
     }
 
     fn number(&self, slab: u32, index: u32) -> u32
@@ -97,68 +151,6 @@ impl<K: Kind> SlabList<K> {
         self.stuck(slab).is_some()
     }
 
-    fn is_fuller(&self, slab: u32, other: u32) -> bool
-        requires slab { slab < length self.now.slabs }
-        requires other { other < length self.now.slabs }
-        ensures { result ≡ is_fuller (slab_at self.now.slabs slab) slab (slab_at self.now.slabs other) other }
-    {
-        let used = self.used(slab);
-        let others = self.used(other);
-        others < used || (used == others && slab < other)
-    }
-
-    // Marked slabs come first, and then the fuller ones.
-    fn comes_before(&self, slab: u32, other: u32) -> bool
-        requires slab { slab < length self.now.slabs }
-        requires other { other < length self.now.slabs }
-        ensures { result ≡ comes_before self.now.slabs slab other }
-    {
-        let is_marked = self.is_marked(slab);
-        if is_marked != self.is_marked(other) {
-            return is_marked;
-        }
-        self.is_fuller(slab, other)
-    }
-
-    fn first_partial(&self) -> Option<u32>
-        ensures first { result ≡ first_partial self.now.slabs }
-        ensures range { IfSome result (λ slab. slab < length self.now.slabs) }
-        ensures whole { IsListWhole self.now }
-    {
-        law_order();
-        let mut first = None;
-        for slab in 0..self.slabs() {
-            first = self.first_with(first, slab);
-        }
-        first
-    }
-
-    // The first partial slab of those so far, with one more.
-    fn first_with(&self, found: Option<u32>, slab: u32) -> Option<u32>
-        requires found { IfSome found (λ other. other < length self.now.slabs) }
-        requires slab { slab < length self.now.slabs }
-        ensures { result ≡ (if goes_before (comes_before self.now.slabs) slab found
-            && is_partial (slab_at self.now.slabs slab) then Some slab else found) }
-    {
-        if self.is_before(slab, found) && self.is_partial(slab) {
-            Some(slab)
-        } else {
-            found
-        }
-    }
-
-    // Whether the slab comes before the one that was found, if one was.
-    fn is_before(&self, slab: u32, found: Option<u32>) -> bool
-        requires slab { slab < length self.now.slabs }
-        requires found { IfSome found (λ other. other < length self.now.slabs) }
-        ensures { result ≡ goes_before (comes_before self.now.slabs) slab found }
-    {
-        match found {
-            Some(other) => self.comes_before(slab, other),
-            None => true,
-        }
-    }
-
     // The least free buffer of the slab.
     fn least_free(&self, slab: u32) -> Option<u32>
         requires { slab < length self.now.slabs }
@@ -180,19 +172,9 @@ impl<K: Kind> SlabList<K> {
         ensures room { IfSome result (IsFree self.now) }
     {
         law_order();
-        for slab in 0..self.slabs() {
-            if self.is_unused(slab) {
-                return Some(self.number(slab, 0));
-            }
-        }
-        None
-    }
-
-    fn is_unused(&self, slab: u32) -> bool
-        requires { slab < length self.now.slabs }
-        ensures { result ≡ is_unused (slab_at self.now.slabs slab) }
-    {
-        self.is_listed(slab) && self.used(slab) == 0
+        self.law_whole();
+        let slab = self.first_in(UNUSED)?;
+        Some(self.number(slab, 0))
     }
 }
 
@@ -209,40 +191,27 @@ impl<K: Kind> SlabList<K> {
         ensures range { IfSome result (λ slab. slab < length self.now.slabs) }
     {
         law_order();
-        let mut last = None;
-        for slab in 0..self.slabs() {
-            last = self.last_with(rule, skip, last, slab);
+        self.law_whole();
+        let mut last = self.place_before(UNUSED * PLACES);
+        while let Some(place) = last {
+            let slab = place % PLACES;
+            if self.least_to_move(rule, skip, slab).is_some() {
+                return Some(slab);
+            }
+            if self.ends_scan(rule, slab) {
+                return None;
+            }
+            last = self.place_before(place);
         }
-        last
+        None
     }
 
-    // The last such slab of those so far, with one more.
-    fn last_with(&self, rule: Rule, skip: &[bool], found: Option<u32>, slab: u32) -> Option<u32>
-        requires first { rule.first ≡ first_partial self.now.slabs }
-        requires skip { length skip.now ≡ length self.now.cells }
-        requires found { IfSome found (λ other. other < length self.now.slabs) }
-        requires slab { slab < length self.now.slabs }
-        ensures { result ≡ (if goes_before (λ j i. comes_before self.now.slabs i j) slab found
-            && is_some (least_to_move self.now.chunks rule.numer (mode_of rule.desperate)
-            (λ b. slice_index_or skip.now b false) self.now.slabs slab) then Some slab else found) }
+    // Whether a mild scan takes neither this slab nor any fuller one.
+    fn ends_scan(&self, rule: Rule, slab: u32) -> bool
+        requires { slab < length self.now.slabs }
+        ensures { result ≡ (not rule.desperate && not (is_reclaimable self.now.chunks rule.numer (mode_of rule.desperate) (slab_at self.now.slabs slab))) }
     {
-        if self.is_after(slab, found) && self.least_to_move(rule, skip, slab).is_some() {
-            Some(slab)
-        } else {
-            found
-        }
-    }
-
-    // Whether the slab comes after the one that was found, if one was.
-    fn is_after(&self, slab: u32, found: Option<u32>) -> bool
-        requires slab { slab < length self.now.slabs }
-        requires found { IfSome found (λ other. other < length self.now.slabs) }
-        ensures { result ≡ goes_before (λ j i. comes_before self.now.slabs i j) slab found }
-    {
-        match found {
-            Some(other) => self.comes_before(other, slab),
-            None => true,
-        }
+        !rule.desperate && !self.is_reclaimable(rule.numer, rule.desperate, slab)
     }
 
     // The least buffer of the slab that can be moved.

@@ -1,11 +1,11 @@
-//! The slabs of one cache.
+//! The slabs of one cache, each by its number, with the cells of all their buffers.
 ghost use Rattle.std.specs.Prelude.{◌≡◌, ◌≤◌, ◌<◌, ◌+◌, ◌*◌, ◌/◌, ◌%◌, true, false, length, map, replicate, option_map, IfOk};
 ghost use Rattle.kmem_buf.specs.Homes.{IsBufferOf, stub_homes};
 ghost use Rattle.kmem_model.specs.CacheState.{SlabState, slab_at, slab_in_source, is_same_standing, is_listed, is_dead, used};
 ghost use Rattle.kmem_model.specs.CacheEnter.{slab_listed, slab_taken, slab_freed, slab_later, slab_never, slab_given_back, unmarked};
 ghost use Rattle.kmem_model.specs.declared.cache_state.Standing.TheVariants.{Source, Listed, Dead};
 ghost use Rattle.slab_list.specs.Slabs.{IsListWhole, IsFree, slab_with, is_out_in, on_slab, on_buffer, fresh_slab, slab_left};
-ghost use Rattle.slab_list.specs.Lines.{AreCellsFree, line_unmarked};
+ghost use Rattle.slab_list.specs.Lines.{AreCellsFree};
 
 use crate::line::Line;
 use kmem_buf::{Buf, Buffer, Cell, Home, Kind, Stub};
@@ -13,15 +13,15 @@ use kmem_model::Standing;
 use std::alloc::{AllocError, Global};
 use std::marker::{Model, PhantomData};
 
-/// The slabs of one cache, with the cells of all their buffers. Buffer `slab * chunks + index` lies on its slab at its index.
-pub struct SlabList<K> {
+/// The slabs of one cache, with the cells of all their buffers, and nothing that tells them apart but their numbers. Buffer `slab * chunks + index` lies on its slab at its index.
+pub struct SlabTable<K> {
     chunks: u32,
     cells: Vec<Cell>,
     lines: Vec<Line>,
     kind: PhantomData<K>,
 }
 
-impl<K> Model for SlabList<K> {
+impl<K> Model for SlabTable<K> {
     ghost use Rattle.kmem_buf.specs.Homes.{cell_homes};
     ghost use Rattle.slab_list.specs.Slabs.{ListState};
     ghost use Rattle.slab_list.specs.Lines.{slabs_of, IsListKept};
@@ -37,7 +37,7 @@ impl<K> Model for SlabList<K> {
     ghost invariant = { λ s. IsListKept s.chunks s.cells.items s.lines.items };
 }
 
-impl<K> Drop for SlabList<K> {
+impl<K> Drop for SlabTable<K> {
     fn drop(self) {
         let Self {
             chunks: _,
@@ -48,7 +48,7 @@ impl<K> Drop for SlabList<K> {
     }
 }
 
-impl<K> SlabList<K> {
+impl<K> SlabTable<K> {
     /// Shows that the buffer is out. It asks nothing of the kind, so that a type with a list can be a `Cells` of every kind.
     pub fn meet<X>(&mut self, buf: &mut Buffer<X>)
         requires { IsBufferOf self.old.cells buf.old }
@@ -61,7 +61,7 @@ impl<K> SlabList<K> {
     }
 }
 
-impl<K: Kind> SlabList<K> {
+impl<K: Kind> SlabTable<K> {
     /// How many slabs there are, listed or not.
     pub fn slabs(&self) -> u32
         ensures slabs { result ≡ length self.now.slabs }
@@ -78,6 +78,13 @@ impl<K: Kind> SlabList<K> {
         self.chunks
     }
 
+    /// Tells what holds of the table at every moment. It does nothing.
+    pub fn law_whole(&self)
+        ensures { IsListWhole self.now }
+    {
+        let _lines = &self.lines;
+    }
+
     /// Whether the slab is listed.
     pub fn is_listed(&self, slab: u32) -> bool
         requires { slab < length self.now.slabs }
@@ -92,6 +99,18 @@ impl<K: Kind> SlabList<K> {
         ensures { result ≡ is_dead (slab_at self.now.slabs slab) }
     {
         self.standing(slab) == Standing::Dead
+    }
+
+    /// What is kept of the slab beside its cells.
+    pub fn line(&self, slab: u32) -> Line
+        requires { slab < length self.now.slabs }
+        ensures standing { result.standing ≡ (slab_at self.now.slabs slab).standing }
+        ensures used { result.used ≡ used (slab_at self.now.slabs slab) }
+        ensures later { result.later ≡ (slab_at self.now.slabs slab).later }
+        ensures stuck { result.stuck ≡ (slab_at self.now.slabs slab).stuck }
+        ensures whole { IsListWhole self.now }
+    {
+        self.lines[slab as usize]
     }
 
     fn standing(&self, slab: u32) -> Standing
@@ -222,15 +241,17 @@ impl<K: Kind> SlabList<K> {
         line.fix(number % self.chunks);
     }
 
-    /// Every count and mark goes.
-    pub fn forget(&mut self)
-        ensures { self.new ≡ record self.old { slabs = map unmarked self.old.slabs } }
+    /// Count and mark of the slab go.
+    pub fn unmark(&mut self, slab: u32)
+        requires { slab < length self.old.slabs }
+        ensures { self.new ≡ on_slab self.old slab unmarked }
     {
-        unmark_all(&mut self.lines);
+        let line = &mut self.lines[slab as usize];
+        line.unmark();
     }
 
     /// No slab is listed. All memory that the list will ever need is taken here.
-    pub fn create(alloc: Global, slabs: u32, chunks: u32) -> Result<SlabList<K>, AllocError>
+    pub fn create(alloc: Global, slabs: u32, chunks: u32) -> Result<SlabTable<K>, AllocError>
         requires slabs { (0 < slabs) × (slabs ≤ 4096) }
         requires chunks { (0 < chunks) × (chunks ≤ 64) }
         requires buffers { slabs * chunks ≤ 65536 }
@@ -238,7 +259,7 @@ impl<K: Kind> SlabList<K> {
         ensures chunks { IfOk result (λ s. s.chunks ≡ chunks) }
         ensures cells { IfOk result (λ s. length s.cells ≡ slabs * chunks) }
     {
-        Ok(SlabList {
+        Ok(SlabTable {
             chunks,
             cells: free_cells(alloc, slabs * chunks)?,
             lines: Vec::from_elem(alloc, Line::in_source(), slabs as usize)?,
@@ -257,13 +278,4 @@ fn free_cells(alloc: Global, count: u32) -> Result<Vec<Cell>, AllocError>
         cells.push(Cell::create(alloc, number)?)?;
     }
     Ok(cells)
-}
-
-fn unmark_all(lines: &mut [Line])
-    ensures { lines.new ≡ map line_unmarked lines.old }
-{
-    for index in 0..lines.len() {
-        let line = &mut lines[index];
-        line.unmark();
-    }
 }

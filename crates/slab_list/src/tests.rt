@@ -4,6 +4,7 @@ ghost use Rattle.kmem_buf.specs.Homes.{IsBufferOf};
 
 use crate::SlabList;
 use kmem_buf::{Buf, Kind};
+use number_set::Steps;
 use std::alloc::{AllocError, Global};
 use std::test::Fail;
 
@@ -93,16 +94,31 @@ fn stuck(list: &SlabList<Counters>, slab: u32) -> Option<u32> {
     }
 }
 
+fn first_partial(list: &SlabList<Counters>) -> Option<u32> {
+    list.first_partial(&mut Steps::create())
+}
+
 // The fuller slab serves, then the marked one, and the fuller one again once the stuck buffer is back.
 #[test]
 fn marked_slabs_serve_first(rt: HostRuntime) -> Result<(), Fail> {
     let mut list = listed(rt.alloc(), 3, 4, &[4, 5, 6, 8, 9, 10])?;
     let buf = take(&mut list, 0).ok_or("taken")?;
-    assert_eq!(rt; list.first_free(), Some(7));
+    assert_eq!(rt;
+        (first_partial(&list), list.first_free()),
+        (Some(1), Some(7))
+    );
     fix(&mut list, 0);
-    assert_eq!(rt; (list.first_free(), stuck(&list, 0)), (Some(1), Some(0)));
+    assert_eq!(rt;
+        (first_partial(&list), list.first_free()),
+        (Some(0), Some(1))
+    );
+    assert_eq!(rt; stuck(&list, 0), Some(0));
     assert_eq!(rt; list.give(buf), 0);
-    assert_eq!(rt; (list.first_free(), stuck(&list, 0)), (Some(7), None));
+    assert_eq!(rt;
+        (first_partial(&list), list.first_free()),
+        (Some(1), Some(7))
+    );
+    assert_eq!(rt; stuck(&list, 0), None);
     Ok(())
 }
 
@@ -174,6 +190,11 @@ fn give_back(list: &mut SlabList<Counters>, slab: u32) {
     }
 }
 
+// How many slabs are listed, how many dead, and how many buffers are out.
+fn counts(list: &SlabList<Counters>) -> (u32, u32, u32) {
+    (list.listed_count(), list.dead_count(), list.out_count())
+}
+
 // A slab with no buffer out serves last, and is then unlisted, dead or not.
 #[test]
 fn slabs_come_and_go(rt: HostRuntime) -> Result<(), Fail> {
@@ -185,6 +206,8 @@ fn slabs_come_and_go(rt: HostRuntime) -> Result<(), Fail> {
     assert_eq!(rt; list.first_free(), Some(3));
     leave(&mut list, 0, true);
     assert_eq!(rt; list.first_dead(), Some(0));
+    assert_eq!(rt; counts(&list), (1, 1, 1));
+    assert_eq!(rt; (list.free_count(), list.free_on_partial()), (1, 1));
     give_back(&mut list, 0);
     assert_eq!(rt; list.first_dead(), None);
     add(&mut list, 0);

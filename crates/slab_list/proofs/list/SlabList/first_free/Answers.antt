@@ -16,14 +16,14 @@ returns-in-Some-clause-free g c =
 pub returns-in-Some-clause-none : goal.returns-in-Some-clause-none
 returns-in-Some-clause-none g c =
     let l = c.law_order.ensures in
-    none_free l.least l.no_least l.foremost l.no_foremost l.order c.args.self.now c.first_partial.ensures.whole c.least_free.result
+    none_free l.least l.no_least l.foremost l.no_foremost l.order c.args.self.now c.law_whole.ensures.whole c.least_free.result
     (c.least_free.ensures.least
     ∙ served l.least l.no_least l.foremost l.no_foremost l.order c.args.self.now c.in-Some.slab (sym c.first_partial.ensures.first ∙ c.in-Some.is))
 
 pub returns-in-None-clause-none : goal.returns-in-None-clause-none
 returns-in-None-clause-none g c =
     let l = c.law_order.ensures in
-    none_free l.least l.no_least l.foremost l.no_foremost l.order c.args.self.now c.first_partial.ensures.whole c.first_unused.result
+    none_free l.least l.no_least l.foremost l.no_foremost l.order c.args.self.now c.law_whole.ensures.whole c.first_unused.result
     (c.first_unused.ensures.first
     ∙ sym (ap (λ o. option_or (option_and_then (λ j. option_map (λ k. j * c.args.self.now.chunks + k) (least_free (slab_at c.args.self.now.slabs j))) o) (first_of_slab c.args.self.now.chunks c.args.self.now.slabs is_unused))
     (sym c.first_partial.ensures.first ∙ c.in-None.is)))

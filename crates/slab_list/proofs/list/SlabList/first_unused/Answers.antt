@@ -1,28 +1,28 @@
-use Rattle.std.proofs.Common.{◌≡◌, ◌*◌, Some, length, arith, sym, ap, ap₂, ◌∙◌, option_map}
-use Rattle.kmem_model.specs.CacheState.{slab_at, is_listed, is_out_on}
+use Rattle.std.proofs.Common.{◌≡◌, ◌+◌, ◌*◌, ℕ, length, Some, arith, sym, ap, ◌∙◌, option_map}
+use Rattle.kmem_model.specs.CacheState.{slab_at, used}
+use Rattle.kmem_model.specs.CacheOrder.{is_the, is_marked}
 use Rattle.slab_list.specs.Slabs.{is_unused}
-use Rattle.slab_list.proofs.Choices.{unused_free}
+use Rattle.slab_list.specs.Bins.{bin_of}
+use Rattle.slab_list.proofs.Orders.{unused_by, found_by}
 use Rattle.slab_list.proofs.list.SlabList.first_unused.Goals as goal
 
-pub returns-then-is_unused-clause-first : goal.returns-then-is_unused-clause-first
-returns-then-is_unused-clause-first g c =
-    let slabs = c.args.self.now.slabs in
-    let number : c.number.result ≡ c.loop-slab.slab * c.args.self.now.chunks = omega (arith, c.number.ensures.number) in
-    ap Some number
-    ∙ sym (ap (option_map (λ i. i * c.args.self.now.chunks))
-    ((c.law_order.ensures.least (length slabs) c.loop-slab.slab (λ i. is_unused (slab_at slabs i))).1
-    (record {
-      below = omega (arith, c.loop-slab-test.true, c.slabs-slab-end.ensures.slabs);
-      passes = sym c.is_unused.ensures ∙ c.if-is_unused.true;
-      least = c.loop-slab.invariant;
-    })))
+pub returns-in_err-slab-clause-first : goal.returns-in_err-slab-clause-first
+returns-in_err-slab-clause-first g c =
+    let s = c.args.self.now in
+    c.from_residual.ensures
+    ∙ ap (option_map (λ i. i * s.chunks))
+    (sym c.in_err-slab.was ∙ found_by c.law_order.ensures.least c.law_order.ensures.no_least (length s.slabs)
+    (λ i. is_the (bin_of s.chunks (slab_at s.slabs i)) 128) (λ i. is_unused (slab_at s.slabs i))
+    (λ i. unused_by s.chunks (slab_at s.slabs i).standing (used (slab_at s.slabs i)) (is_marked (slab_at s.slabs i)) c.law_whole.ensures.whole.some)
+    c.first_in.result c.first_in.ensures)
 
-pub returns-then-is_unused-clause-room : goal.returns-then-is_unused-clause-room
-returns-then-is_unused-clause-room g c =
-    let slabs = c.args.self.now.slabs in
-    let i = c.loop-slab.slab in
-    let place = c.number.ensures.place in
-    let free = unused_free (slab_at slabs i) 0 (sym c.is_unused.ensures ∙ c.if-is_unused.true) in (
-      ap (λ j. is_listed (slab_at slabs j)) place.0 ∙ free.0,
-      ap₂ (λ j k. is_out_on (slab_at slabs j) k) place.0 place.1 ∙ free.1,
-    )
+pub returns-clause-first : goal.returns-clause-first
+returns-clause-first g c =
+    let s = c.args.self.now in
+    let number : c.number.result ≡ c.in_ok-slab.slab * s.chunks = omega (arith, c.number.ensures.number) in
+    ap Some number
+    ∙ ap (option_map (λ i. i * s.chunks))
+    (sym c.in_ok-slab.was ∙ found_by c.law_order.ensures.least c.law_order.ensures.no_least (length s.slabs)
+    (λ i. is_the (bin_of s.chunks (slab_at s.slabs i)) 128) (λ i. is_unused (slab_at s.slabs i))
+    (λ i. unused_by s.chunks (slab_at s.slabs i).standing (used (slab_at s.slabs i)) (is_marked (slab_at s.slabs i)) c.law_whole.ensures.whole.some)
+    c.first_in.result c.first_in.ensures)

@@ -1,29 +1,87 @@
-use Rattle.std.proofs.Common.{◌≡◌, ◌+◌, ℕ, Bool, is_some, length, false, arith, sym, subst, slice_index_or}
-use Rattle.kmem_model.specs.CacheOrder.{least_to_move, comes_before}
-use Rattle.slab_list.specs.Slabs.{mode_of}
-use Rattle.slab_list.specs.Search.{Leads}
-use Rattle.slab_list.proofs.Found.{leads_with, leads_is, leads_low}
+use Rattle.std.proofs.Common.{◌≡◌, ◌<◌, ◌≤◌, ◌*◌, ◌%◌, ℕ, Bool, List, Option, Some, None, true, false, not, length, is_some, slice_index_or, arith, sym, ap, ◌∙◌, subst}
+use Rattle.kmem_model.specs.CacheState.{slab_at}
+use Rattle.kmem_model.specs.CacheOrder.{is_partial, comes_before, least_to_move}
+use Rattle.std.proofs.lemmas.Bool.{false_from_ne_true}
+use Rattle.slab_list.specs.Slabs.{ListState, IsListWhole, mode_of}
+use Rattle.slab_list.proofs.Choices.{slab_size}
+use Rattle.slab_list.proofs.Orders.{Left, left_next, left_past, left_this, place_low, place_within, place_partial, place_own, low_use, parts}
+use Rattle.slab_list.proofs.Scanned.{can_reclaim, reclaim_partial, scan_ends, is_some_map}
 use Rattle.slab_list.proofs.list.SlabList.last_to_ask.Goals as goal
 
-pub loop-slab-preserved : goal.loop-slab-preserved
-loop-slab-preserved g c =
+pub loop-last-init : goal.loop-last-init
+loop-last-init g c =
     let s = c.args.self.now in
-    let test : ℕ → Bool = λ i. is_some (least_to_move s.chunks c.args.rule.numer (mode_of c.args.rule.desperate) (λ b. slice_index_or c.args.skip.now b false) s.slabs i) in
-    subst (Leads (c.loop-slab.slab + 1) test (λ j i. comes_before s.slabs i j)) (sym c.last_with-last.ensures)
-    (leads_with test (λ j i. comes_before s.slabs i j) (c.law_order.ensures.reversed s.slabs) c.loop-slab.slab c.loop-slab.last c.loop-slab.invariant)
+    let size = slab_size s c.law_whole.ensures.whole in
+    let skip : ℕ → Bool = λ b. slice_index_or c.args.skip.now b false in
+    let can : ℕ → Bool = λ i. is_some (least_to_move s.chunks c.args.rule.numer (mode_of c.args.rule.desperate) skip s.slabs i) in
+    let only : (j : ℕ) → j < length s.slabs → can j ≡ true → is_partial (slab_at s.slabs j) ≡ true =
+    λ j below given. reclaim_partial s.chunks c.args.rule.numer c.args.rule.desperate (slab_at s.slabs j)
+    (can_reclaim c.law_order.ensures.no_least s.chunks c.args.rule.numer (mode_of c.args.rule.desperate) skip s.slabs j given) in
+    left_next s c.law_whole.ensures.sizes.0 c.law_whole.ensures.sizes.1 size can only 524288 c.place_before-last.result (omega arith)
+    (λ j below given. place_low s c.law_whole.ensures.sizes.0 c.law_whole.ensures.sizes.1 size j below (only j below given))
+    c.place_before-last.ensures
+
+pub loop-last-preserved : goal.loop-last-preserved
+loop-last-preserved g c =
+    let s = c.args.self.now in
+    let size = slab_size s c.law_whole.ensures.whole in
+    let skip : ℕ → Bool = λ b. slice_index_or c.args.skip.now b false in
+    let can : ℕ → Bool = λ i. is_some (least_to_move s.chunks c.args.rule.numer (mode_of c.args.rule.desperate) skip s.slabs i) in
+    let only : (j : ℕ) → j < length s.slabs → can j ≡ true → is_partial (slab_at s.slabs j) ≡ true =
+    λ j below given. reclaim_partial s.chunks c.args.rule.numer c.args.rule.desperate (slab_at s.slabs j)
+    (can_reclaim c.law_order.ensures.no_least s.chunks c.args.rule.numer (mode_of c.args.rule.desperate) skip s.slabs j given) in
+    let p = c.in-Some.place in
+    let left : Left s can (Some p) = subst (Left s can) c.in-Some.is c.loop-last.invariant in
+    let fails : can (p % 4096) ≡ false =
+    sym (ap is_some c.least_to_move.ensures.least ∙ is_some_map _ (least_to_move s.chunks c.args.rule.numer (mode_of c.args.rule.desperate) skip s.slabs (p % 4096)))
+    ∙ (sym c.is_some.ensures ∙ c.if-is_some.false) in
+    left_next s c.law_whole.ensures.sizes.0 c.law_whole.ensures.sizes.1 size can only p c.place_before-last-in-Some.result (omega (arith, left.0))
+    (left_past s c.law_whole.ensures.sizes.0 c.law_whole.ensures.sizes.1 size can only p left fails)
+    c.place_before-last-in-Some.ensures
+
+pub returns-then-is_some-clause-last : goal.returns-then-is_some-clause-last
+returns-then-is_some-clause-last g c =
+    let s = c.args.self.now in
+    let size = slab_size s c.law_whole.ensures.whole in
+    let skip : ℕ → Bool = λ b. slice_index_or c.args.skip.now b false in
+    let can : ℕ → Bool = λ i. is_some (least_to_move s.chunks c.args.rule.numer (mode_of c.args.rule.desperate) skip s.slabs i) in
+    let only : (j : ℕ) → j < length s.slabs → can j ≡ true → is_partial (slab_at s.slabs j) ≡ true =
+    λ j below given. reclaim_partial s.chunks c.args.rule.numer c.args.rule.desperate (slab_at s.slabs j)
+    (can_reclaim c.law_order.ensures.no_least s.chunks c.args.rule.numer (mode_of c.args.rule.desperate) skip s.slabs j given) in
+    let p = c.in-Some.place in
+    let left : Left s can (Some p) = subst (Left s can) c.in-Some.is c.loop-last.invariant in
+    let passes : can (p % 4096) ≡ true =
+    sym (ap is_some c.least_to_move.ensures.least ∙ is_some_map _ (least_to_move s.chunks c.args.rule.numer (mode_of c.args.rule.desperate) skip s.slabs (p % 4096)))
+    ∙ (sym c.is_some.ensures ∙ c.if-is_some.true) in
+    sym ((c.law_order.ensures.foremost (length s.slabs) (p % 4096) can (λ j i. comes_before s.slabs i j) (c.law_order.ensures.reversed s.slabs)).1
+    (left_this s c.law_whole.ensures.sizes.0 c.law_whole.ensures.sizes.1 size can only p left passes))
+
+pub returns-then-ends_scan-clause-last : goal.returns-then-ends_scan-clause-last
+returns-then-ends_scan-clause-last g c =
+    let s = c.args.self.now in
+    let size = slab_size s c.law_whole.ensures.whole in
+    let narrow = c.law_whole.ensures.sizes.0 in
+    let few = c.law_whole.ensures.sizes.1 in
+    let skip : ℕ → Bool = λ b. slice_index_or c.args.skip.now b false in
+    let can : ℕ → Bool = λ i. is_some (least_to_move s.chunks c.args.rule.numer (mode_of c.args.rule.desperate) skip s.slabs i) in
+    let p = c.in-Some.place in
+    let left : Left s can (Some p) = subst (Left s can) c.in-Some.is c.loop-last.invariant in
+    let high : p < 524288 = left.0 in
+    let low = place_within s narrow few size p left.1 (omega (arith, high)) in
+    let partial = place_partial s narrow few size p left.1 (omega (arith, high)) in
+    let own = place_own s narrow few size p left.1 (omega (arith, high)) in
+    sym ((c.law_order.ensures.no_foremost (length s.slabs) can (λ j i. comes_before s.slabs i j) (c.law_order.ensures.reversed s.slabs)).1
+    (λ j below. false_from_ne_true (can j) (λ given.
+    let takes = can_reclaim c.law_order.ensures.no_least s.chunks c.args.rule.numer (mode_of c.args.rule.desperate) skip s.slabs j given in
+    let other = reclaim_partial s.chunks c.args.rule.numer c.args.rule.desperate (slab_at s.slabs j) takes in
+    scan_ends s.chunks c.args.rule.numer c.args.rule.desperate s.slabs (p % 4096) j (omega arith) (omega (arith, below, few))
+    (low_use s narrow few size (p % 4096) low partial) (low_use s narrow few size j below other) partial (parts s narrow few size (p % 4096) low partial).1
+    (omega (arith, left.2 j below given, own)) (sym c.ends_scan.ensures ∙ c.if-ends_scan.true) takes)))
 
 pub returns-clause-last : goal.returns-clause-last
 returns-clause-last g c =
     let s = c.args.self.now in
-    let test : ℕ → Bool = λ i. is_some (least_to_move s.chunks c.args.rule.numer (mode_of c.args.rule.desperate) (λ b. slice_index_or c.args.skip.now b false) s.slabs i) in
-    let all : c.loop-slab.slab ≡ length s.slabs = omega (arith, c.loop-slab-test.false, c.loop-slab.auto.slab-end, c.slabs-slab-end.ensures.slabs) in
-    leads_is test (λ j i. comes_before s.slabs i j) (c.law_order.ensures.reversed s.slabs) c.law_order.ensures.foremost c.law_order.ensures.no_foremost
-    (length s.slabs) c.loop-slab.last
-    (subst (λ n. Leads n test (λ j i. comes_before s.slabs i j) c.loop-slab.last) all c.loop-slab.invariant)
-
-pub returns-clause-range : goal.returns-clause-range
-returns-clause-range g c =
-    let s = c.args.self.now in
-    let test : ℕ → Bool = λ i. is_some (least_to_move s.chunks c.args.rule.numer (mode_of c.args.rule.desperate) (λ b. slice_index_or c.args.skip.now b false) s.slabs i) in
-    leads_low test (λ j i. comes_before s.slabs i j) (c.law_order.ensures.reversed s.slabs) c.loop-slab.slab (length s.slabs) c.loop-slab.last
-    (omega (arith, c.loop-slab.auto.slab-end, c.slabs-slab-end.ensures.slabs)) c.loop-slab.invariant
+    let skip : ℕ → Bool = λ b. slice_index_or c.args.skip.now b false in
+    let can : ℕ → Bool = λ i. is_some (least_to_move s.chunks c.args.rule.numer (mode_of c.args.rule.desperate) skip s.slabs i) in
+    let left : Left s can None = subst (Left s can) c.in_default.is c.loop-last.invariant in
+    sym ((c.law_order.ensures.no_foremost (length s.slabs) can (λ j i. comes_before s.slabs i j) (c.law_order.ensures.reversed s.slabs)).1 left)

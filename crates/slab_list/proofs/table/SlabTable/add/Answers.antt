@@ -7,7 +7,7 @@ use Rattle.slab_list.proofs.Rows.{length-slabs_of, slab_at-slabs_of, kept_line}
 use Rattle.slab_list.proofs.Steps.{slab_read, line_step, add_line, add_slab, fresh}
 use Rattle.slab_list.specs.Lines.{row_at, slab_of}
 use Rattle.slab_list.specs.Slabs.{fresh_slab, on_slab}
-use Rattle.slab_list.proofs.list.SlabList.add.Goals as goal
+use Rattle.slab_list.proofs.table.SlabTable.add.Goals as goal
 
 pub index_mut-line-requires : goal.index_mut-line-requires
 index_mut-line-requires g c =

@@ -1,7 +1,7 @@
 use Rattle.std.proofs.Common.{subst}
 use Rattle.slab_list.proofs.Rows.{whole}
 use Rattle.slab_list.specs.Slabs.{IsListWhole}
-use Rattle.slab_list.proofs.list.SlabList.chunks.Goals as goal
+use Rattle.slab_list.proofs.table.SlabTable.chunks.Goals as goal
 
 pub returns-clause-whole : goal.returns-clause-whole
 returns-clause-whole g c =

@@ -1,7 +1,7 @@
 use Rattle.std.proofs.Common.{◌≡◌, replicate, sym, ap, ◌∙◌, subst}
 use Rattle.slab_list.specs.Lines.{IsListKept, slabs_of, line_in_source}
 use Rattle.slab_list.proofs.Whole.{slabs_start, kept_start}
-use Rattle.slab_list.proofs.list.SlabList.create.Goals as goal
+use Rattle.slab_list.proofs.table.SlabTable.create.Goals as goal
 
 pub invariant_of-result : goal.invariant_of-result
 invariant_of-result g c =

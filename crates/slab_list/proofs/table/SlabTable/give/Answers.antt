@@ -8,7 +8,7 @@ use Rattle.kmem_model.specs.declared.cache_state.Standing.TheVariants.{Listed}
 use Rattle.slab_list.proofs.Rows.{kept_cell}
 use Rattle.slab_list.proofs.Steps.{out_count, out_listed, out_read, buffer_slab, cell_step, give_line, give_slab, number_read}
 use Rattle.slab_list.specs.Slabs.{on_buffer}
-use Rattle.slab_list.proofs.list.SlabList.give.Goals as goal
+use Rattle.slab_list.proofs.table.SlabTable.give.Goals as goal
 
 pub free-requires : goal.free-requires
 free-requires g c =

@@ -4,7 +4,7 @@ use Rattle.kmem_model.specs.CacheEnter.{slab_given_back}
 use Rattle.slab_list.proofs.Rows.{length-slabs_of, kept_line}
 use Rattle.slab_list.proofs.Steps.{dead_within, slab_read, line_step, back_line, back_slab}
 use Rattle.slab_list.specs.Slabs.{on_slab}
-use Rattle.slab_list.proofs.list.SlabList.give_back.Goals as goal
+use Rattle.slab_list.proofs.table.SlabTable.give_back.Goals as goal
 
 pub index_mut-line-requires : goal.index_mut-line-requires
 index_mut-line-requires g c =

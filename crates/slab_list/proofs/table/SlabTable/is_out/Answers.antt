@@ -3,7 +3,7 @@ use Rattle.std.proofs.lemmas.List.{length-map}
 use Rattle.kmem_buf.specs.Buffers.{CellState}
 use Rattle.slab_list.proofs.Rows.{out_by_cell}
 use Rattle.slab_list.specs.Slabs.{is_out_in}
-use Rattle.slab_list.proofs.list.SlabList.is_out.Goals as goal
+use Rattle.slab_list.proofs.table.SlabTable.is_out.Goals as goal
 
 pub returns : goal.returns
 returns g c =

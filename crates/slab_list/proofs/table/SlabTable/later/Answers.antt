@@ -4,7 +4,7 @@ use Rattle.slab_list.proofs.Rows.{length-slabs_of, kept_line, at, IsAt}
 use Rattle.slab_list.proofs.Steps.{out_within, buffer_within, listed_of_out, line_step, later_line}
 use Rattle.slab_list.specs.Lines.{slabs_of}
 use Rattle.slab_list.specs.Slabs.{on_buffer, is_out_in}
-use Rattle.slab_list.proofs.list.SlabList.later.Goals as goal
+use Rattle.slab_list.proofs.table.SlabTable.later.Goals as goal
 
 pub index_mut-line-requires : goal.index_mut-line-requires
 index_mut-line-requires g c =

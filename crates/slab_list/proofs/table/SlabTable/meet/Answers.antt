@@ -3,7 +3,7 @@ use Rattle.std.proofs.lemmas.Option.{slice_get_within}
 use Rattle.std.proofs.lemmas.List.{length-map}
 use Rattle.kmem_buf.specs.Buffers.{CellState}
 use Rattle.slab_list.proofs.Rows.{out_by_cell}
-use Rattle.slab_list.proofs.list.SlabList.meet.Goals as goal
+use Rattle.slab_list.proofs.table.SlabTable.meet.Goals as goal
 
 pub returns-clause-out : goal.returns-clause-out
 returns-clause-out g c =

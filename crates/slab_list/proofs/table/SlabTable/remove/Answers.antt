@@ -4,7 +4,7 @@ use Rattle.kmem_model.specs.declared.cache_state.Standing.TheVariants.{Source}
 use Rattle.slab_list.proofs.Rows.{length-slabs_of, kept_line}
 use Rattle.slab_list.proofs.Steps.{listed_within, slab_read, line_step, left_line}
 use Rattle.slab_list.specs.Slabs.{on_slab, slab_left}
-use Rattle.slab_list.proofs.list.SlabList.remove.Goals as goal
+use Rattle.slab_list.proofs.table.SlabTable.remove.Goals as goal
 
 pub index_mut-line-requires : goal.index_mut-line-requires
 index_mut-line-requires g c =

@@ -1,7 +1,7 @@
 use Rattle.std.proofs.Common.{length, arith, ap, subst}
 use Rattle.slab_list.proofs.Rows.{length-slabs_of, whole}
 use Rattle.slab_list.specs.Slabs.{IsListWhole}
-use Rattle.slab_list.proofs.list.SlabList.slabs.Goals as goal
+use Rattle.slab_list.proofs.table.SlabTable.slabs.Goals as goal
 
 pub returns-clause-slabs : goal.returns-clause-slabs
 returns-clause-slabs g c =

@@ -2,7 +2,7 @@ use Rattle.std.proofs.Common.{◌<◌, length, arith, sym, ap, ◌∙◌}
 use Rattle.kmem_model.specs.CacheState.{SlabState, slab_at}
 use Rattle.slab_list.proofs.Rows.{length-slabs_of}
 use Rattle.slab_list.proofs.Steps.{slab_read}
-use Rattle.slab_list.proofs.list.SlabList.standing.Goals as goal
+use Rattle.slab_list.proofs.table.SlabTable.standing.Goals as goal
 
 pub index-requires : goal.index-requires
 index-requires g c =

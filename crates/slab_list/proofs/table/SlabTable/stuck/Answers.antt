@@ -4,7 +4,7 @@ use Rattle.kmem_model.specs.CacheState.{SlabState, slab_at}
 use Rattle.slab_list.proofs.Rows.{row_within, length-slabs_of}
 use Rattle.slab_list.proofs.Steps.{line_kept, slab_read}
 use Rattle.slab_list.specs.Lines.{IsLine, row_at}
-use Rattle.slab_list.proofs.list.SlabList.stuck.Goals as goal
+use Rattle.slab_list.proofs.table.SlabTable.stuck.Goals as goal
 
 pub index-requires : goal.index-requires
 index-requires g c =

@@ -6,7 +6,7 @@ use Rattle.slab_list.proofs.Rows.{length-slabs_of, kept_cell}
 use Rattle.slab_list.proofs.Steps.{listed_within, buffer_within, few_used, out_read, buffer_slab, cell_step, take_line, take_slab, is_of, number_read}
 use Rattle.slab_list.specs.Lines.{slabs_of}
 use Rattle.slab_list.specs.Slabs.{on_buffer, is_out_in, slab_with}
-use Rattle.slab_list.proofs.list.SlabList.take.Goals as goal
+use Rattle.slab_list.proofs.table.SlabTable.take.Goals as goal
 
 pub index_mut-line-requires : goal.index_mut-line-requires
 index_mut-line-requires g c =

@@ -1,29 +1,34 @@
-use Rattle.std.proofs.Common.{◌≡◌, List, map, length, sym, ap, ◌∙◌, subst}
-use Rattle.slab_list.specs.declared.line.Line.{Line}
-use Rattle.slab_list.specs.Slabs.{ListState}
-use Rattle.std.specs.Vec.{with_items}
-use Rattle.std.proofs.lemmas.List.{with_items_is, length-map}
-use Rattle.kmem_buf.specs.Homes.{cell_homes}
-use Rattle.kmem_model.specs.CacheState.{SlabState}
+use Rattle.std.proofs.Common.{◌<◌, length, arith, sym, ap, ◌∙◌, refl}
 use Rattle.kmem_model.specs.CacheEnter.{unmarked}
-use Rattle.slab_list.specs.Lines.{IsListKept, slabs_of, line_unmarked}
-use Rattle.slab_list.proofs.Whole.{slabs_unmarked, kept_unmarked}
-use Rattle.slab_list.proofs.list.SlabList.forget.Goals as goal
+use Rattle.slab_list.proofs.Rows.{length-slabs_of, kept_line}
+use Rattle.slab_list.proofs.Steps.{line_step, unmark_line}
+use Rattle.slab_list.specs.Slabs.{on_slab}
+use Rattle.slab_list.proofs.table.SlabTable.unmark.Goals as goal
+
+pub index_mut-line-requires : goal.index_mut-line-requires
+index_mut-line-requires g c =
+    let f = c.self.inside in
+    omega (arith, c.requires, f.lines.ok.0, length-slabs_of f.chunks f.cells.items f.lines.items, ap (λ s. length s.slabs) c.self.view_is)
 
 pub invariant_of-self : goal.invariant_of-self
 invariant_of-self g c =
     let f = c.self.inside in
-    let new : c.unmark_all.new.lines ≡ map line_unmarked f.lines.items = c.unmark_all.ensures ∙ ap (map line_unmarked) c.deref_mut.ensures.value in
-    let is : (with_items f.lines c.unmark_all.new.lines).items ≡ map line_unmarked f.lines.items =
-    with_items_is f.lines c.unmark_all.new.lines (ap (λ (ls : List Line). length ls) new ∙ (length-map f.lines.items line_unmarked ∙ sym f.lines.ok.0)) ∙ new in
-    subst (IsListKept f.chunks f.cells.items) (sym is) (kept_unmarked f.chunks f.cells.items f.lines.items c.self.invariant)
+    let i = c.args.slab in
+    let x = c.index_mut-line.result.now in
+    let read = c.index_mut-line.ensures.value in
+    let kept = c.self.invariant in
+    let below : i < length f.lines.items = omega (arith, c.requires, length-slabs_of f.chunks f.cells.items f.lines.items, ap (λ s. length s.slabs) c.self.view_is) in
+    rw c.unmark.ensures
+    (kept_line f.chunks f.cells.items f.lines.items kept i _ below (unmark_line f.chunks f.cells.items f.lines.items kept i x read below))
 
 pub returns : goal.returns
 returns g c =
     let f = c.self.inside in
-    let new : c.unmark_all.new.lines ≡ map line_unmarked f.lines.items = c.unmark_all.ensures ∙ ap (map line_unmarked) c.deref_mut.ensures.value in
-    let is : (with_items f.lines c.unmark_all.new.lines).items ≡ map line_unmarked f.lines.items =
-    with_items_is f.lines c.unmark_all.new.lines (ap (λ (ls : List Line). length ls) new ∙ (length-map f.lines.items line_unmarked ∙ sym f.lines.ok.0)) ∙ new in
-    ap (λ (slabs : List SlabState). record { chunks = f.chunks; slabs = slabs; cells = cell_homes f.cells.items })
-    (ap (slabs_of f.chunks f.cells.items) is ∙ slabs_unmarked f.chunks f.cells.items f.lines.items)
-    ∙ ap (λ (s : ListState). record s { slabs = map unmarked s.slabs }) c.self.view_is
+    let i = c.args.slab in
+    let x = c.index_mut-line.result.now in
+    let read = c.index_mut-line.ensures.value in
+    let kept = c.self.invariant in
+    let below : i < length f.lines.items = omega (arith, c.requires, length-slabs_of f.chunks f.cells.items f.lines.items, ap (λ s. length s.slabs) c.self.view_is) in
+    rw c.unmark.ensures
+    (line_step f.chunks f.cells.items f.lines.items kept i x read below _ unmarked refl
+    ∙ ap (λ s. on_slab s i unmarked) c.self.view_is)

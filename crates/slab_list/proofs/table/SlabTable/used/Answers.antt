@@ -3,7 +3,7 @@ use Rattle.kmem_model.specs.CacheState.{slab_at, used}
 use Rattle.slab_list.proofs.Rows.{length-slabs_of}
 use Rattle.slab_list.proofs.Steps.{line_kept, slab_read}
 use Rattle.slab_list.specs.Lines.{IsLine, row_at}
-use Rattle.slab_list.proofs.list.SlabList.used.Goals as goal
+use Rattle.slab_list.proofs.table.SlabTable.used.Goals as goal
 
 pub index-requires : goal.index-requires
 index-requires g c =

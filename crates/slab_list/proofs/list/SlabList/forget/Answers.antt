@@ -1,0 +1,13 @@
+use Rattle.std.proofs.Common.{◌≡◌, ◌≤◌, ℕ, map, arith, ap, ap₂, ◌∙◌}
+use Rattle.kmem_model.specs.CacheEnter.{unmarked}
+use Rattle.slab_list.proofs.Indexed.{forget_all}
+use Rattle.slab_list.proofs.list.SlabList.forget.Goals as goal
+
+pub returns : goal.returns
+returns g c =
+    let new = c.loop-slab.self in
+    let old = c.args.self.now in
+    let k = c.loop-slab.invariant in
+    ap₂ (λ chunks cells. record { chunks = chunks; slabs = new.slabs; cells = cells }) k.chunks k.cells
+    ∙ ap (λ slabs. record { chunks = old.chunks; slabs = slabs; cells = old.cells })
+    (forget_all old.slabs new.slabs k.size k.same (λ i. c.in_default.ensures i (omega arith)))
