@@ -4,6 +4,5 @@ pub mod Freed
 mod Joined
 pub mod Rooms
 pub mod Full
-pub mod Counted
 pub mod Tracked
 pub mod Planned

@@ -1,12 +1,13 @@
 -- How the source and the slabs stay in step where one slab changes.
-use Rattle.std.proofs.Common.{◌≡◌, ◌≢◌, ℕ, zero, suc, ◌<◌, ◌≤◌, ◌&&◌, ◌||◌, not, nat_lt, Bool, true, false, List, [], ◌∷◌, map, length, set, sym, ◌∙◌, ap, ap₂, refl, arith, ⊎_elim, subst}
+use Rattle.std.proofs.Common.{◌≡◌, ◌≢◌, ℕ, zero, suc, ◌<◌, ◌≤◌, ◌&&◌, ◌||◌, not, nat_lt, Bool, true, false, cond, count_by, List, [], ◌∷◌, map, length, set, replicate, sym, ◌∙◌, ap, ap₂, refl, arith, ⊎_elim, subst}
 use Rattle.std.specs.FinSet as fin
 use Rattle.std.specs.Cmp.{nat_cmp_total, unsigned_tied}
-use Rattle.std.proofs.lemmas.Bool.{cases_eq, lt-ltb, eq-eqb, ne_eqb}
-use Rattle.std.proofs.lemmas.List.{get_or-set_same, get_or-set_other, length-set, length-map, ext_get_or}
+use Rattle.std.proofs.lemmas.Bool.{cases_Bool, cases_lt, cases_eq, lt-ltb, eq-eqb, ne_eqb}
+use Rattle.std.proofs.lemmas.List.{get_or-set_same, get_or-set_other, length-set, length-map, ext_get_or, get_or_past, length-replicate, get_or-replicate}
+use Rattle.std.proofs.lemmas.List.Sums.{sum_by-set}
 use Rattle.slab_source.specs.Source.{SourceState}
 use Rattle.slab_list.specs.Slabs.{is_unused}
-use Rattle.kmem_model.specs.CacheState.{SlabState, slab_at, no_slab, is_in_source, is_dead}
+use Rattle.kmem_model.specs.CacheState.{SlabState, slab_at, no_slab, slab_in_source, is_in_source, is_dead}
 use Rattle.kmem_model.specs.CacheEnter.{slab_given_back}
 use Rattle.object_cache.specs.Stock.{AreHeld, OthersAreUsed, IsStocked}
 
@@ -99,13 +100,78 @@ back_source slab dead = rw dead refl
 pub back_used : (slab : SlabState) → is_dead slab ≡ true → is_unused (slab_given_back slab) ≡ false
 back_used slab dead = rw dead refl
 
--- the dead ones of the first n slabs went back
-pub record WentBack (n : ℕ) (old new : List SlabState) : Type 0 where
+-- some of the dead ones went back
+pub record WentBack (old new : List SlabState) : Type 0 where
   pub len : length new ≡ length old
-  pub done : (i : ℕ) → i < n → slab_at new i ≡ slab_given_back (slab_at old i)
-  pub rest : (i : ℕ) → n ≤ i → slab_at new i ≡ slab_at old i
+  pub same : (i : ℕ) → slab_given_back (slab_at new i) ≡ slab_given_back (slab_at old i)
 
-pub back_all : (n : ℕ) (old new : List SlabState) → length old ≤ n → WentBack n old new → new ≡ map slab_given_back old
-back_all n old new all went =
+back_alive : (slab : SlabState) → is_dead slab ≡ false → slab_given_back slab ≡ slab
+back_alive slab alive = rw alive refl
+
+back_twice : (slab : SlabState) → slab_given_back (slab_given_back slab) ≡ slab_given_back slab
+back_twice slab =
+    ⊎_elim
+    (λ (dead : is_dead slab ≡ true). rw dead refl)
+    (λ alive. ap slab_given_back (back_alive slab alive))
+    (cases_Bool (is_dead slab))
+
+-- one more of them
+pub went_more : (old new : List SlabState) (i : ℕ) → i < length new → WentBack old new → WentBack old (set new i (slab_given_back (slab_at new i)))
+went_more old new i below went =
+    record {
+      len = length-set new i (slab_given_back (slab_at new i)) ∙ went.len;
+      same = λ j.
+          reads slab_given_back new i j (slab_given_back (slab_at new i)) below (λ slab. slab ≡ slab_given_back (slab_at old j))
+          (λ same. back_twice (slab_at new i) ∙ (went.same i ∙ ap (λ n. slab_given_back (slab_at old n)) (sym same)))
+          (λ apart. went.same j);
+    }
+
+-- and where none is dead, all of them
+pub back_all : (old new : List SlabState) → WentBack old new → ((i : ℕ) → i < length new → is_dead (slab_at new i) ≡ false) → new ≡ map slab_given_back old
+back_all old new went none =
     ext_get_or no_slab new (map slab_given_back old) (went.len ∙ sym (length-map old slab_given_back))
-    (λ i below. went.done i (omega (arith, below, went.len, all)) ∙ sym (mapped_at slab_given_back old refl i))
+    (λ i below. sym (back_alive (slab_at new i) (none i below)) ∙ (went.same i ∙ sym (mapped_at slab_given_back old refl i)))
+
+-- how many are dead falls
+pub fewer_dead : (slabs : List SlabState) (i : ℕ) → i < length slabs → is_dead (slab_at slabs i) ≡ true →
+    count_by is_dead (set slabs i (slab_given_back (slab_at slabs i))) < count_by is_dead slabs
+fewer_dead slabs i below dead =
+    omega (
+      arith,
+      sum_by-set (λ (slab : SlabState). cond (is_dead slab) 1 0) slabs i (slab_given_back (slab_at slabs i)) no_slab below,
+      ap {A = Bool} {B = ℕ} (λ b. cond b 1 0) dead,
+      ap {A = Bool} {B = ℕ} (λ b. cond b 1 0) (not_dead (slab_at slabs i) dead),
+    )
+  where
+    not_dead : (slab : SlabState) → is_dead slab ≡ true → is_dead (slab_given_back slab) ≡ false
+    not_dead slab d = rw d refl
+
+-- slabs of the source alone
+module _ (n chunks : ℕ) where
+  at_start : (P : SlabState → Type 0) → P (slab_in_source chunks) → P no_slab → (i : ℕ) → P (slab_at (replicate n (slab_in_source chunks)) i)
+  at_start P here past i =
+      ⊎_elim
+      (λ (below : i < n). subst P (sym (get_or-replicate n i (slab_in_source chunks) no_slab below)) here)
+      (λ over. subst P (sym (get_or_past (replicate n (slab_in_source chunks)) i no_slab (omega (arith, over, length-replicate n (slab_in_source chunks))))) past)
+      (cases_lt i n)
+
+  same_held : (a b : Bool) → b ≡ true → a ≡ (a && b)
+  same_held true b e = sym e
+  same_held false b e = refl
+
+  pub stocked_start : (slabs : List SlabState) (source : SourceState) → slabs ≡ replicate n (slab_in_source chunks) → source.slabs ≡ n →
+      ((i : ℕ) → fin.contains source.held i ≡ nat_lt i n) → IsStocked slabs source
+  stocked_start slabs source e size held =
+      subst (λ (all : List SlabState). IsStocked all source) (sym e)
+      (let len : length (replicate n (slab_in_source chunks)) ≡ n = length-replicate n (slab_in_source chunks) in
+      record {
+        held = record {
+          size = size ∙ sym len;
+          held = λ i.
+              held i
+              ∙ (ap (nat_lt i) (sym len)
+              ∙ same_held (nat_lt i (length (replicate n (slab_in_source chunks)))) (is_in_source (slab_at (replicate n (slab_in_source chunks)) i))
+              (at_start (λ slab. is_in_source slab ≡ true) refl refl i));
+        };
+        used = at_start (λ slab. is_unused slab ≡ false) refl refl;
+      })

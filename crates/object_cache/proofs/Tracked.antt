@@ -1,8 +1,8 @@
 -- What is kept of the pending moves.
 use Rattle.std.proofs.Common.{◌≡◌, ℕ, zero, suc, ◌+◌, ◌-◌, ◌<◌, ◌≤◌, ◌^◌, ◌||◌, ◌==◌, Bool, true, false, cond, List, [], ◌∷◌, length, get_or, set, replicate, count_by, Option, Some, None, is_some, map, ap₂, ⊎_elim, sym, ◌∙◌, ap, refl, arith, subst, mul-zero}
 use Rattle.std.specs.List.{list_any}
-use Rattle.std.proofs.lemmas.List.{length-replicate, get_or-replicate, get_or-set_same, get_or-set_other, length-set, length-map}
-use Rattle.std.proofs.lemmas.Bool.{both_ways, cases_eq, ne_eqb}
+use Rattle.std.proofs.lemmas.List.{length-replicate, get_or-replicate, get_or-set_same, get_or-set_other, length-set, length-map, ext_get_or, get_or_past}
+use Rattle.std.proofs.lemmas.Bool.{both_ways, cases_eq, cases_lt, ne_eqb}
 use Rattle.std.proofs.lemmas.List.Folds.{sum_by-replicate}
 use Rattle.std.proofs.lemmas.List.Sums.{count_by-le-length}
 use Rattle.kmem_buf.specs.Stubs.{StubState, AreUnissued}
@@ -203,3 +203,37 @@ anew stubs pending asked skip fresh left count kept is as_many flags =
       as_many = as_many ∙ (kept.as_many ∙ sym size);
       left_out = λ b. flags b ∙ ap (λ (f : Bool). f || list_any (is_of_move b) pending) (sym (ap (λ (bs : List Bool). get_or bs b false) is ∙ unasked asked b));
     }
+
+-- one buffer less counts as asked about
+pub unask : (pending : List (Option PendingMove)) (asked skip : List Bool) (i : ℕ) → i < length asked → length skip ≡ length asked →
+    ((b : ℕ) → get_or skip b false ≡ is_left_out_of asked pending b) →
+    (b : ℕ) → get_or (set skip i (list_any (is_of_move i) pending)) b false ≡ is_left_out_of (set asked i false) pending b
+unask pending asked skip i low size told b =
+    ⊎_elim
+    (λ (same : b ≡ i).
+    ap (λ n. get_or (set skip i (list_any (is_of_move i) pending)) n false) same
+    ∙ (get_or-set_same skip i (list_any (is_of_move i) pending) false (omega (arith, low, size))
+    ∙ sym (ap (λ n. is_left_out_of (set asked i false) pending n) same
+    ∙ ap (λ (t : Bool). t || list_any (is_of_move i) pending) (get_or-set_same asked i false false low))))
+    (λ apart.
+    get_or-set_other skip i b (list_any (is_of_move i) pending) false apart
+    ∙ (told b ∙ ap (λ (t : Bool). t || list_any (is_of_move b) pending) (sym (get_or-set_other asked i b false false apart))))
+    (cases_eq b i)
+
+-- and fewer do
+pub fewer_asked : (asked : List Bool) (i : ℕ) → get_or asked i false ≡ true → i < length asked →
+    count_by (λ (b : Bool). b) (set asked i false) < count_by (λ (b : Bool). b) asked
+fewer_asked asked i given low =
+    omega (arith, count-set (λ (b : Bool). b) asked i false false low, ap {A = Bool} {B = ℕ} (λ b. cond b 1 0) given)
+
+-- where none does, what is skipped are the buffers of pending moves
+pub none_asked : (pending : List (Option PendingMove)) (asked old : List Bool) → length asked ≡ length old → ((b : ℕ) → get_or asked b false ≡ false) →
+    asked ≡ map (λ (b : Bool). false) old
+none_asked pending asked old size none =
+    ext_get_or false asked (map (λ (b : Bool). false) old) (size ∙ sym (length-map old (λ (b : Bool). false)))
+    (λ b below. none b ∙ sym (unasked old b))
+
+-- a buffer that was asked about is one of them
+pub asked_within : (asked : List Bool) (i : ℕ) → get_or asked i false ≡ true → i < length asked
+asked_within asked i given =
+    ⊎_elim (λ low. low) (λ past. absurd (both_ways (get_or asked i false) (get_or_past asked i false past) given)) (cases_lt i (length asked))

@@ -1,6 +1,7 @@
 -- The pending moves of a cache, and the buffers that a scan leaves out (this project's own).
-use Rattle.std.specs.Prelude.{ℕ, ◌≡◌, ◌<◌, ◌^◌, Bool, true, false, ◌||◌, List, [], ◌∷◌, Option, Some, None, length, count_by, is_some, slice_index_or, slice_get, refl}
+use Rattle.std.specs.Prelude.{ℕ, ◌≡◌, ◌<◌, ◌≤◌, ◌^◌, Bool, true, false, ◌||◌, List, [], ◌∷◌, Option, Some, None, length, count_by, is_some, slice_index_or, slice_get, refl}
 use Rattle.std.specs.List.{list_any}
+use Rattle.number_set.specs.Sets.{SetState, has}
 use Rattle.atomic_table.specs.Seated.{TableId, table_id_coded}
 use Rattle.std.specs.Coded.{Coded, code_by, coded×, coded_ℕ}
 use Rattle.kmem_buf.specs.Stubs.{StubState}
@@ -90,3 +91,8 @@ pub record AreTracked (stubs : List StubState) (pending : List (Option PendingMo
   pub counted : count ≡ count_by is_some pending
   pub as_many : length skip ≡ length asked
   pub left_out : (b : ℕ) → slice_index_or skip b false ≡ is_left_out_of asked pending b
+
+-- the set has exactly the numbers whose flag is set
+pub record IsNoted (flags : List Bool) (noted : SetState) : Type 0 where
+  pub room : length flags ≤ length noted.flags
+  pub same : (b : ℕ) → has noted b ≡ slice_index_or flags b false

@@ -5,12 +5,12 @@ ghost use Rattle.kmem_buf.specs.Homes.{IsBufferOf};
 ghost use Rattle.kmem_model.specs.CacheState.{slab_at, is_listed, used, sizes_of, opening, slab_count, free_count, out_count, pending_count, dead_count};
 ghost use Rattle.kmem_model.specs.CacheEnter.{enter};
 ghost use Rattle.kmem_model.specs.CacheHistory.{MayEnter};
+ghost use Rattle.kmem_model.specs.Settle.{is_rest_marked};
 ghost use Rattle.kmem_model.specs.SettleWhole.{IsWhole};
 ghost use Rattle.kmem_model.specs.declared.cache_entry.CacheEntry.TheVariants.{Alloc, Full, Free};
 
 mod moving;
 
-use crate::counts;
 use crate::moves::Moves;
 use crate::scan::Scan;
 use crate::stock::Stock;
@@ -135,7 +135,7 @@ impl<K: Kind> ObjectCache<K> {
     }
 
     /// The buffer of the first partial slab that is free and least, else the first of the source's least slab, else of the least dead one.
-    /// It costs a pass over the slabs where one is partial, and else at most three.
+    /// Whichever it is, no slab is looked at but its own.
     pub fn alloc(&mut self) -> Result<Buf<K>, AllocRefused>
         ensures entry { IfOk result (λ buf. enter self.old.state (Alloc buf.number) ≡ Some self.new.state) }
         ensures ready { IfOk result (λ buf. K.constructed buf.object × IsBufferOf self.old.home.cells buf) }
@@ -183,21 +183,21 @@ impl<K: Kind> ObjectCache<K> {
     pub fn slab_count(&self) -> u32
         ensures { result ≡ slab_count self.now.state }
     {
-        counts::listed(self.stock.list())
+        self.stock.list().listed_count()
     }
 
     /// How many buffers are free on listed slabs.
     pub fn free_count(&self) -> u32
         ensures { result ≡ free_count self.now.state }
     {
-        counts::free(self.stock.list())
+        self.stock.list().free_count()
     }
 
     /// How many buffers are out.
     pub fn out_count(&self) -> u32
         ensures { result ≡ out_count self.now.state }
     {
-        counts::handed_out(self.stock.list())
+        self.stock.list().out_count()
     }
 
     /// How many moves are pending.
@@ -211,7 +211,14 @@ impl<K: Kind> ObjectCache<K> {
     pub fn dead_count(&self) -> u32
         ensures { result ≡ dead_count self.now.state }
     {
-        counts::dead(self.stock.list())
+        self.stock.list().dead_count()
+    }
+
+    /// Whether every partial slab after the first has a mark. Two slabs are looked at.
+    pub fn is_rest_marked(&self) -> bool
+        ensures { result ≡ is_rest_marked self.now.state.slabs }
+    {
+        self.stock.list().is_rest_marked()
     }
 
     /// What the slab shows, or None where it isn't listed.

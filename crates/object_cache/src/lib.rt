@@ -1,6 +1,7 @@
 //! The object cache: objects of a kind in buffers on slabs. Each call is one entry of the entry rules of `kmem_model`.
 #![tactic(auto)]
 
+mod asked;
 mod cache;
 mod counts;
 mod moves;

@@ -1,10 +1,11 @@
 //! The pending moves of a cache, with the stubs of all moves, and the buffers that a scan leaves out.
-ghost use Rattle.std.specs.Prelude.{◌≡◌, ◌<◌, ℕ, Some, true, false, None, length, count_by, is_some, is_none, map, replicate, slice_set, slice_index_or, IfOk};
+ghost use Rattle.std.specs.Prelude.{◌≡◌, ◌≤◌, ◌<◌, ℕ, Some, true, false, None, length, count_by, is_some, is_none, map, replicate, slice_set, slice_index_or, IfOk};
 ghost use Rattle.std.specs.List.{list_any};
 ghost use Rattle.kmem_buf.specs.Homes.{stub_homes};
 ghost use Rattle.kmem_model.specs.CacheOrder.{is_of_move, least_below};
-ghost use Rattle.object_cache.specs.Moves.{AreWithin, IsMoveOf, IsPending, is_left_out_of};
+ghost use Rattle.object_cache.specs.Moves.{IsMoveOf, IsPending, is_left_out_of};
 
+use crate::asked::Asked;
 use kmem_buf::{Buffer, Kind, Slip, Stub};
 use kmem_model::{PendingMove, law_order};
 use std::alloc::{AllocError, Global};
@@ -123,7 +124,7 @@ pub struct Moves {
     // The pending move of each number.
     pending: Vec<Option<PendingMove>>,
     count: u32,
-    asked: Vec<bool>,
+    asked: Asked,
     // Buffers that were asked about in this scan, and those of pending moves.
     skip: Vec<bool>,
 }
@@ -134,14 +135,15 @@ impl Model for Moves {
 
     ghost Value = { MovesState };
 
-    ghost view = { λ m. record { asked = m.asked.items; pending = m.pending.items; stubs = stub_homes m.stubs.items } };
+    ghost view = { λ m. record { asked = m.asked; pending = m.pending.items; stubs = stub_homes m.stubs.items } };
 
-    ghost invariant = { λ m. AreTracked m.stubs.items m.pending.items m.asked.items m.skip.items m.count };
+    ghost invariant = { λ m. AreTracked m.stubs.items m.pending.items m.asked m.skip.items m.count };
 }
 
 impl Moves {
     /// None is pending. All memory that they will ever need is taken here.
     pub fn create(alloc: Global, limit: u32, buffers: u32) -> Result<Moves, AllocError>
+        requires { buffers ≤ 65536 }
         ensures asked { IfOk result (λ m. m.asked ≡ replicate buffers false) }
         ensures pending { IfOk result (λ m. m.pending ≡ replicate limit None) }
         ensures stubs { IfOk result (λ m. length m.stubs ≡ limit) }
@@ -150,7 +152,7 @@ impl Moves {
             stubs: Stub::create_all(alloc, limit)?,
             pending: Vec::from_elem(alloc, None, limit as usize)?,
             count: 0,
-            asked: Vec::from_elem(alloc, false, buffers as usize)?,
+            asked: Asked::create(alloc, buffers)?,
             skip: Vec::from_elem(alloc, false, buffers as usize)?,
         })
     }
@@ -202,8 +204,7 @@ impl Moves {
     pub fn ask_anew(&mut self)
         ensures { self.new ≡ record self.old { asked = map (λ _. false) self.old.asked } }
     {
-        clear(&mut self.asked);
-        skip_pending(&mut self.skip, &self.pending);
+        ask_none(&mut self.asked, &mut self.skip, &self.pending);
     }
 
     /// The move of this number is pending from then on. Both of its buffers count as asked about.
@@ -218,8 +219,8 @@ impl Moves {
         ensures pending { (result.no ≡ number) × (result.from ≡ from) × (result.to ≡ to) × (result.slot ≡ number) }
         ensures home { IsMoveOf self.old.stubs result }
     {
-        self.asked[from as usize] = true;
-        self.asked[to as usize] = true;
+        self.asked.ask(from);
+        self.asked.ask(to);
         self.skip[from as usize] = true;
         self.skip[to as usize] = true;
         self.pending[number as usize] = Some(PendingMove { from, to });
@@ -268,35 +269,26 @@ impl Moves {
     }
 }
 
-fn clear(flags: &mut [bool])
-    ensures { flags.new ≡ map (λ _. false) flags.old }
+// No buffer counts as asked about any more, so that those of pending moves alone are skipped.
+fn ask_none(asked: &mut Asked, skip: &mut [bool], pending: &[Option<PendingMove>])
+    requires size { length skip.old ≡ length asked.old }
+    requires left_out { (b : ℕ) → slice_index_or skip.old b false ≡ is_left_out_of asked.old pending.now b }
+    ensures asked { asked.new ≡ map (λ _. false) asked.old }
+    ensures len { length skip.new ≡ length skip.old }
+    ensures flags { (b : ℕ) → slice_index_or skip.new b false ≡ list_any (is_of_move b) pending.now }
 {
-    for index in 0..flags.len() {
-        flags[index] = false;
-    }
-}
-
-// Sets the flags of the buffers of all pending moves, and no others.
-fn skip_pending(flags: &mut [bool], pending: &[Option<PendingMove>])
-    requires { AreWithin (length flags.old) pending.now }
-    ensures len { length flags.new ≡ length flags.old }
-    ensures flags { (b : ℕ) → slice_index_or flags.new b false ≡ list_any (is_of_move b) pending.now }
-{
-    clear(flags);
-    for index in 0..pending.len() {
-        if let Some(found) = pending[index] {
-            flags[found.from as usize] = true;
-            flags[found.to as usize] = true;
-        }
+    while let Some(number) = asked.least() {
+        asked.forget(number);
+        skip[number as usize] = is_of_any(pending, number);
     }
 }
 
 // Whether the buffer was asked about, or is the old or the new one of a pending move.
-fn is_left_out(asked: &[bool], pending: &[Option<PendingMove>], number: u32) -> bool
+fn is_left_out(asked: &Asked, pending: &[Option<PendingMove>], number: u32) -> bool
     requires { number < length asked.now }
     ensures { result ≡ is_left_out_of asked.now pending.now number }
 {
-    asked[number as usize] || is_of_any(pending, number)
+    asked.has(number) || is_of_any(pending, number)
 }
 
 // Whether the buffer is the old or the new one of a pending move.

@@ -226,7 +226,8 @@ fn give_back_all<K: Kind>(list: &mut SlabList<K>, supply: &mut Supply)
     ensures list { list.new ≡ record list.old { slabs = map slab_given_back list.old.slabs } }
     ensures stocked { IsStocked list.new.slabs supply.new }
 {
-    for slab in 0..list.slabs() {
+    law_order();
+    while let Some(slab) = list.first_dead() {
         give_back_one(list, supply, slab);
     }
 }

@@ -28,7 +28,7 @@ struct Plan {
 }
 
 impl<K: Kind> ObjectCache<K> {
-    /// Starts a scan, a desperate or a mild one. It costs a pass over the slabs, and clears what was noted of each buffer.
+    /// Starts a scan, a desperate or a mild one. It costs what it clears: what was noted of each buffer since the last one.
     pub fn start_scan(&mut self, desperate: bool)
         ensures entry { enter self.old.state (Scan desperate) ≡ Some self.new.state }
         ensures home { self.new.home ≡ self.old.home }
@@ -38,7 +38,8 @@ impl<K: Kind> ObjectCache<K> {
         self.moves.ask_anew();
     }
 
-    /// Begins the move that the scan asks for next, off the last slab with a buffer that it may ask about. It costs what that search costs.
+    /// Begins the move that the scan asks for next, off the last slab with a buffer that it may ask about. Slabs are looked at from the last
+    /// one on.
     pub fn begin(&mut self) -> Result<Job<K>, BeginRefused>
         ensures entry { IfOk result (λ job. enter self.old.state (Begin job.move.no job.move.from job.move.to) ≡ Some self.new.state) }
         ensures job { IfOk result (IsJobOf K.constructed self.old.home) }

@@ -15,9 +15,9 @@ overflow_sub-self c =
     let low : p.slot < length f.pending.items =
     omega (arith, slice_get_within c.args.self.now.stubs c.args.pending.slot c.args.pending.home c.requires, length-map f.stubs.items (λ (s : StubState). s.home), c.self.invariant.size, ap (λ m. length m.stubs) c.self.view_is, ap (λ q. q.slot) c.pending.view_is) in
     let says =
-    pending_says f.stubs.items f.pending.items f.asked.items f.skip.items f.count c.self.invariant p.slot low c.index_mut-stub.result.now p.no p.from p.to c.index_mut-stub.ensures.value
+    pending_says f.stubs.items f.pending.items f.asked f.skip.items f.count c.self.invariant p.slot low c.index_mut-stub.result.now p.no p.from p.to c.index_mut-stub.ensures.value
     (ap (λ s. s.issued) c.redeem.ensures.was) (ap (λ s. s.facts) c.redeem.ensures.was ∙ c.pending.invariant) in
-    some_pending f.stubs.items f.pending.items f.asked.items f.skip.items f.count c.self.invariant p.slot low (record { from = p.from; to = p.to }) says.0.1
+    some_pending f.stubs.items f.pending.items f.asked f.skip.items f.count c.self.invariant p.slot low (record { from = p.from; to = p.to }) says.0.1
 
 pub is_left_out-requires : goal.is_left_out-requires
 is_left_out-requires c =
@@ -26,9 +26,9 @@ is_left_out-requires c =
     let low : p.slot < length f.pending.items =
     omega (arith, slice_get_within c.args.self.now.stubs c.args.pending.slot c.args.pending.home c.requires, length-map f.stubs.items (λ (s : StubState). s.home), c.self.invariant.size, ap (λ m. length m.stubs) c.self.view_is, ap (λ q. q.slot) c.pending.view_is) in
     let says =
-    pending_says f.stubs.items f.pending.items f.asked.items f.skip.items f.count c.self.invariant p.slot low c.index_mut-stub.result.now p.no p.from p.to c.index_mut-stub.ensures.value
+    pending_says f.stubs.items f.pending.items f.asked f.skip.items f.count c.self.invariant p.slot low c.index_mut-stub.result.now p.no p.from p.to c.index_mut-stub.ensures.value
     (ap (λ s. s.issued) c.redeem.ensures.was) (ap (λ s. s.facts) c.redeem.ensures.was ∙ c.pending.invariant) in
-    omega (arith, says.1.0, ap (λ bs. length bs) c.deref.ensures.value)
+    omega (arith, says.1.0)
 
 pub index_mut-requires-2 : goal.index_mut-requires-2
 index_mut-requires-2 c =
@@ -37,7 +37,7 @@ index_mut-requires-2 c =
     let low : p.slot < length f.pending.items =
     omega (arith, slice_get_within c.args.self.now.stubs c.args.pending.slot c.args.pending.home c.requires, length-map f.stubs.items (λ (s : StubState). s.home), c.self.invariant.size, ap (λ m. length m.stubs) c.self.view_is, ap (λ q. q.slot) c.pending.view_is) in
     let says =
-    pending_says f.stubs.items f.pending.items f.asked.items f.skip.items f.count c.self.invariant p.slot low c.index_mut-stub.result.now p.no p.from p.to c.index_mut-stub.ensures.value
+    pending_says f.stubs.items f.pending.items f.asked f.skip.items f.count c.self.invariant p.slot low c.index_mut-stub.result.now p.no p.from p.to c.index_mut-stub.ensures.value
     (ap (λ s. s.issued) c.redeem.ensures.was) (ap (λ s. s.facts) c.redeem.ensures.was ∙ c.pending.invariant) in
     omega (arith, says.1.0, f.skip.ok.0, c.self.invariant.as_many)
 
@@ -48,9 +48,9 @@ is_left_out-requires-2 c =
     let low : p.slot < length f.pending.items =
     omega (arith, slice_get_within c.args.self.now.stubs c.args.pending.slot c.args.pending.home c.requires, length-map f.stubs.items (λ (s : StubState). s.home), c.self.invariant.size, ap (λ m. length m.stubs) c.self.view_is, ap (λ q. q.slot) c.pending.view_is) in
     let says =
-    pending_says f.stubs.items f.pending.items f.asked.items f.skip.items f.count c.self.invariant p.slot low c.index_mut-stub.result.now p.no p.from p.to c.index_mut-stub.ensures.value
+    pending_says f.stubs.items f.pending.items f.asked f.skip.items f.count c.self.invariant p.slot low c.index_mut-stub.result.now p.no p.from p.to c.index_mut-stub.ensures.value
     (ap (λ s. s.issued) c.redeem.ensures.was) (ap (λ s. s.facts) c.redeem.ensures.was ∙ c.pending.invariant) in
-    omega (arith, says.1.1, ap (λ bs. length bs) c.deref-3.ensures.value)
+    omega (arith, says.1.1)
 
 pub index_mut-requires-3 : goal.index_mut-requires-3
 index_mut-requires-3 c =
@@ -59,7 +59,7 @@ index_mut-requires-3 c =
     let low : p.slot < length f.pending.items =
     omega (arith, slice_get_within c.args.self.now.stubs c.args.pending.slot c.args.pending.home c.requires, length-map f.stubs.items (λ (s : StubState). s.home), c.self.invariant.size, ap (λ m. length m.stubs) c.self.view_is, ap (λ q. q.slot) c.pending.view_is) in
     let says =
-    pending_says f.stubs.items f.pending.items f.asked.items f.skip.items f.count c.self.invariant p.slot low c.index_mut-stub.result.now p.no p.from p.to c.index_mut-stub.ensures.value
+    pending_says f.stubs.items f.pending.items f.asked f.skip.items f.count c.self.invariant p.slot low c.index_mut-stub.result.now p.no p.from p.to c.index_mut-stub.ensures.value
     (ap (λ s. s.issued) c.redeem.ensures.was) (ap (λ s. s.facts) c.redeem.ensures.was ∙ c.pending.invariant) in
     omega (arith, says.1.1, f.skip.ok.0, c.self.invariant.as_many)
 
@@ -70,12 +70,12 @@ invariant_of-self c =
     let low : p.slot < length f.pending.items =
     omega (arith, slice_get_within c.args.self.now.stubs c.args.pending.slot c.args.pending.home c.requires, length-map f.stubs.items (λ (s : StubState). s.home), c.self.invariant.size, ap (λ m. length m.stubs) c.self.view_is, ap (λ q. q.slot) c.pending.view_is) in
     let says =
-    pending_says f.stubs.items f.pending.items f.asked.items f.skip.items f.count c.self.invariant p.slot low c.index_mut-stub.result.now p.no p.from p.to c.index_mut-stub.ensures.value
+    pending_says f.stubs.items f.pending.items f.asked f.skip.items f.count c.self.invariant p.slot low c.index_mut-stub.result.now p.no p.from p.to c.index_mut-stub.ensures.value
     (ap (λ s. s.issued) c.redeem.ensures.was) (ap (λ s. s.facts) c.redeem.ensures.was ∙ c.pending.invariant) in
-    ended f.stubs.items f.pending.items f.asked.items f.skip.items f.count c.self.invariant p.slot low c.redeem.new.self p.from p.to says.0.1 c.redeem.ensures.ended
+    ended f.stubs.items f.pending.items f.asked f.skip.items f.count c.self.invariant p.slot low c.redeem.new.self p.from p.to says.0.1 c.redeem.ensures.ended
     c.is_left_out.result c.is_left_out-2.result
-    (c.is_left_out.ensures ∙ ap₂ (λ a q. is_left_out_of a q p.from) c.deref.ensures.value c.deref-2.ensures.value)
-    (c.is_left_out-2.ensures ∙ ap₂ (λ a q. is_left_out_of a q p.to) c.deref-3.ensures.value c.deref-4.ensures.value)
+    (c.is_left_out.ensures ∙ ap (λ q. is_left_out_of f.asked q p.from) c.deref.ensures.value)
+    (c.is_left_out-2.ensures ∙ ap (λ q. is_left_out_of f.asked q p.to) c.deref-2.ensures.value)
 
 pub returns-clause-was : goal.returns-clause-was
 returns-clause-was c =
@@ -84,7 +84,7 @@ returns-clause-was c =
     let low : p.slot < length f.pending.items =
     omega (arith, slice_get_within c.args.self.now.stubs c.args.pending.slot c.args.pending.home c.requires, length-map f.stubs.items (λ (s : StubState). s.home), c.self.invariant.size, ap (λ m. length m.stubs) c.self.view_is, ap (λ q. q.slot) c.pending.view_is) in
     let says =
-    pending_says f.stubs.items f.pending.items f.asked.items f.skip.items f.count c.self.invariant p.slot low c.index_mut-stub.result.now p.no p.from p.to c.index_mut-stub.ensures.value
+    pending_says f.stubs.items f.pending.items f.asked f.skip.items f.count c.self.invariant p.slot low c.index_mut-stub.result.now p.no p.from p.to c.index_mut-stub.ensures.value
     (ap (λ s. s.issued) c.redeem.ensures.was) (ap (λ s. s.facts) c.redeem.ensures.was ∙ c.pending.invariant) in
     rw (← c.self.view_is, ← c.pending.view_is) (record { no = says.0.0; move = says.0.1 })
 
@@ -93,7 +93,7 @@ returns-clause-moves c =
     let f = c.self.inside in
     let p = c.pending.inside in
     rw (← c.pending.view_is)
-    (ap (λ (homes : List TableId). record { asked = f.asked.items; pending = set f.pending.items p.slot None; stubs = homes })
+    (ap (λ (homes : List TableId). record { asked = f.asked; pending = set f.pending.items p.slot None; stubs = homes })
     (map-set_same (λ (s : StubState). s.home) f.stubs.items p.slot c.redeem.new.self c.index_mut-stub.result.now
     (c.redeem.ensures.home ∙ ap (λ s. s.home) c.index_mut-stub.ensures.value))
     ∙ ap (λ (s : MovesState). record s { pending = set s.pending p.slot None }) c.self.view_is)
