@@ -4,7 +4,6 @@
 mod carrying;
 mod driving;
 mod laws;
-mod marks;
 mod scanning;
 mod scans;
 mod tally;

@@ -8,7 +8,6 @@ ghost use Rattle.kmem_model.specs.SettleWhole.{IsWholeStage, IsSettled};
 ghost use Rattle.kmem_answers.specs.Words.{said_of};
 ghost use Rattle.consolidator.specs.Settles.{ScansTo, SettlesTo};
 
-use crate::marks::is_rest_marked;
 use crate::tally::{count, no_moves};
 use kmem_buf::Verdict;
 use kmem_model::{law_moves, law_scans, law_settle, law_settle_entries, law_stage};
@@ -16,8 +15,8 @@ use object_cache::{ObjectCache, Tally};
 use record_heap::{RecordHeap, RecordKind};
 
 /// Settles the cache whose buffers the heap takes: forgets all counts and marks, and makes desperate scans in which each move is ended at
-/// once by the heap's answer, until a scan has nothing more to gain. Takes no memory. A scan costs a pass over the slabs for each of its
-/// moves, and clears what was noted of each buffer.
+/// once by the heap's answer, until a scan has nothing more to gain. Takes no memory. A move costs the slabs that the search for it looks
+/// at, from the last one on; where there is nothing to move a settle costs a constant.
 pub fn settle(cache: &mut ObjectCache<RecordKind>, heap: &mut RecordHeap) -> Tally
     requires calm { has_pending cache.old.state ≡ false }
     requires buffers { AreInBuffers cache.old.state heap.old.heap.objects }
@@ -40,7 +39,7 @@ pub fn settle(cache: &mut ObjectCache<RecordKind>, heap: &mut RecordHeap) -> Tal
     cache.forget();
     'scans: loop {
         let gained = scan(cache, heap, &mut tally);
-        let rest = is_rest_marked(cache);
+        let rest = cache.is_rest_marked();
         if !gained && rest {
             return tally;
         }
