@@ -1,5 +1,5 @@
 //! The model: what the words, the records, the slab consolidator and the output of a run mean, as definitions over plain
-//! numbers and lists, and the laws that they keep.
+//! numbers and lists, and the laws that they keep. Beside it words whose reads are counted.
 #![tactic(auto)]
 
 mod cache_entry;
@@ -12,6 +12,8 @@ mod record_entry;
 mod record_laws;
 mod run_laws;
 mod settle_laws;
+mod steps;
+mod words;
 
 pub use cache_entry::{CacheEntry, Said};
 pub use cache_state::{Mode, PendingMove, Standing};
@@ -26,3 +28,5 @@ pub use settle_laws::{
     law_fewest, law_moves, law_rest_marked, law_scans, law_settle, law_settle_entries,
     law_settle_rows, law_whole,
 };
+pub use steps::Steps;
+pub use words::Words;

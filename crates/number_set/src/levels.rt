@@ -5,8 +5,7 @@ ghost use Rattle.number_set.specs.Places.{is_marked, IsLeastFrom, IsLastBelow};
 ghost use Rattle.number_set.specs.Levels.{level_of, SumsFrom, AreSized, AreLevels};
 
 use crate::bits::{above, highest, lowest, up_to, with_place};
-use crate::steps::Steps;
-use crate::words::Words;
+use kmem_model::{Steps, Words};
 
 /// The least place of a level.
 pub fn least_at(levels: &[Words], level: usize, steps: &mut Steps) -> Option<usize>

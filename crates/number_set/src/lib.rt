@@ -1,14 +1,10 @@
-//! Sets of numbers below a bound, as a tree of 64 children a node, and how many of its words a search reads.
+//! Sets of numbers below a bound, as a tree of 64 children a node. How many of its words a search reads is counted.
 #![tactic(auto)]
 
 mod bits;
 mod levels;
 mod set;
-mod steps;
 #[cfg(test)]
 mod tests;
-mod words;
 
 pub use set::NumberSet;
-pub use steps::Steps;
-pub use words::Words;

@@ -5,8 +5,7 @@ ghost use Rattle.number_set.specs.Levels.{level_of, AreLevels};
 ghost use Rattle.number_set.specs.Sets.{has};
 
 use crate::levels::{after_at, before_at, least_at, put_at};
-use crate::steps::Steps;
-use crate::words::Words;
+use kmem_model::{Steps, Words};
 use std::alloc::{AllocError, Global};
 use std::marker::Model;
 

@@ -1,5 +1,6 @@
 //! Each call once.
-use crate::{NumberSet, Steps};
+use crate::NumberSet;
+use kmem_model::Steps;
 use std::test::Fail;
 
 // Of 200,000 numbers the last alone is there: five steps up and down lead to it, and three from the top.

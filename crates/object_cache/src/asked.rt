@@ -2,7 +2,8 @@
 ghost use Rattle.std.specs.Prelude.{◌≡◌, ◌≤◌, ◌<◌, true, false, length, replicate, slice_set, slice_index_or, IfOk};
 ghost use Rattle.number_set.specs.Places.{IsLeastFrom};
 
-use number_set::{NumberSet, Steps};
+use kmem_model::Steps;
+use number_set::NumberSet;
 use std::alloc::{AllocError, Global};
 use std::marker::Model;
 

@@ -12,7 +12,7 @@ ghost use Rattle.slab_list.specs.Bins.{has_note, stands_at};
 use crate::index::Index;
 use crate::table::SlabTable;
 use kmem_buf::{Buf, Buffer, Home, Kind, Stub};
-use number_set::Steps;
+use kmem_model::Steps;
 use std::alloc::{AllocError, Global};
 use std::marker::Model;
 

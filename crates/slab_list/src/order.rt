@@ -9,8 +9,7 @@ ghost use Rattle.slab_list.specs.Bins.{bin_of};
 use crate::index::{DEAD, PLACES, UNUSED};
 use crate::list::SlabList;
 use kmem_buf::Kind;
-use kmem_model::law_order;
-use number_set::Steps;
+use kmem_model::{Steps, law_order};
 
 // What a scan may ask about.
 #[derive(Clone, Copy)]

@@ -4,7 +4,7 @@ ghost use Rattle.kmem_buf.specs.Homes.{IsBufferOf};
 
 use crate::SlabList;
 use kmem_buf::{Buf, Kind};
-use number_set::Steps;
+use kmem_model::Steps;
 use std::alloc::{AllocError, Global};
 use std::test::Fail;
 
