@@ -122,8 +122,8 @@ module _ {O E H : Type 0} (bounds : Bounds H) (stands : O → List (ℕ × E) �
 
   -- A seat's view changes from v to w. The rest of the rule is kept where these are
   pub changed : (s : St) (r : Rule s) (me : ℕ) (v w : View E H) → get_elem? s.views me ≡ some v
-      → (words : List ℕ) (homes : List (maybe.Option (Held O E))) (serving waiting : ℕ) (log : List (ℕ × E))
-      → words ≡ (serving + waiting) % 2 ^ 64 ∷ serving % 2 ^ 64 ∷ length log ∷ []
+      → (words : List ℕ) (homes : List (maybe.Option (Held O E))) (serving waiting : ℕ) (log : List (ℕ × E)) (bells : List ℕ)
+      → words ≡ (serving + waiting) % 2 ^ 64 ∷ serving % 2 ^ 64 ∷ length log ∷ bells
       → IsSpread tickets_of (set s.views me w) (range_with_len serving waiting)
       → claim_numbers w ≡ claim_numbers v
       → length log + w.left ≤ length r.log + v.left
@@ -132,12 +132,13 @@ module _ {O E H : Type 0} (bounds : Bounds H) (stands : O → List (ℕ × E) �
       → ((j : ℕ) (u : View E H) → j ≢ me → get_elem? s.views j ≡ some u → FitsSeat bounds r.serving r.dealt r.log j u → FitsSeat bounds serving r.dealt log j u)
       → (((held : Held O E) × (homes ≡ some held ∷ []) × IsHome bounds stands home_of log held × IsIn (set s.views me w)) ⊎ IsOut (set s.views me w))
       → Rule record { words = words; homes = homes; views = set s.views me w }
-  changed s r me v w at words homes serving waiting log words_are tickets same room known mine others slot = record {
+  changed s r me v w at words homes serving waiting log bells words_are tickets same room known mine others slot = record {
     small = r.small;
     serving = serving;
     waiting = waiting;
     dealt = r.dealt;
     log = log;
+    bells = bells;
     words = words_are;
     tickets = tickets;
     numbers = spread_kept claim_numbers s.views (range_with_len 0 r.dealt) me v w at same r.numbers;

@@ -12,7 +12,7 @@ use native.Mathlib.Decide.{ℕ_discrete}
 use lib.ListN.{get_elem?}
 use lib.Seq.{set-get_or}
 use Rattle.atomic_table.specs.Table.{State, Me, step, keeps, takes, gives, stepped, Allows, Splits, Joins}
-use Rattle.atomic_table.proofs.Lists.{set_here, one_turn}
+use Rattle.atomic_table.proofs.Lists.{set_here, set_again, one_turn}
 use Rattle.hist_lock.specs.declared.rule.Held.{Held}
 use Rattle.hist_lock.specs.declared.rule.Bounds.{Bounds}
 use Rattle.hist_lock.specs.declared.rule.Claim.{Claim}
@@ -22,14 +22,21 @@ use Rattle.hist_lock.specs.declared.rule.View.{View}
 use Rattle.hist_lock.specs.History.{IsFront, entries_of}
 use Rattle.table_sums.specs.Spread.{IsSpread}
 use Rattle.hist_lock.specs.Rule.{drawn, tickets_of, claim_numbers, left_of, own, FitsClaim, FitsStage, FitsSeat, IsHome, IsIn, IsOut, OneLog}
-use Rattle.hist_lock.specs.Steps.{at_stage, drew, with_journal, took, raised, Sat, IsAt, Draws, Looks, Takes, journal_of, Raises, Gives, Serves}
+use Rattle.hist_lock.specs.Steps.{at_stage, drew, with_journal, took, raised, Sat, IsAt, Draws, Looks, Takes, journal_of, Raises, Gives, Serves, Rings}
 use Rattle.table_sums.proofs.Spreads.{seats_set, spread_kept}
 use Rattle.table_sums.proofs.Totals.{total_set, run_last, run_first}
 use Rattle.hist_lock.proofs.Keeps.{drawn_waiting, drawn_called, drawn_holding, out_kept, in_kept, few, in_line, alone, dealt_number, others_differ, room_at, changed}
 
 -- the words of the table, by place
-abbrev words_of : ℕ → ℕ → ℕ → List ℕ
-words_of tickets served len = tickets ∷ served ∷ len ∷ []
+abbrev words_of : ℕ → ℕ → ℕ → List ℕ → List ℕ
+words_of tickets served len bells = tickets ∷ served ∷ len ∷ bells
+
+-- a bell changes no other word
+set_bell : (i tickets served len new : ℕ) (bells : List ℕ) → 3 ≤ i → (after : List ℕ) × (set (words_of tickets served len bells) i new ≡ words_of tickets served len after)
+set_bell zero tickets served len new bells le = absurd (omega arith)
+set_bell (suc zero) tickets served len new bells le = absurd (omega arith)
+set_bell (suc (suc zero)) tickets served len new bells le = absurd (omega arith)
+set_bell (suc (suc (suc i))) tickets served len new bells le = (set bells i new, refl)
 
 idle_only : (stage : Stage) → stage ≡ Idle → stage ≢ Holding
 idle_only stage e h = absurd (cc (e, h))
@@ -116,7 +123,7 @@ module _ {O E H : Type 0} (bounds : Bounds H) (stands : O → List (ℕ × E) �
   }
 
   -- a step that changes no word
-  same_words : (s : St) (r : R s) (i : ℕ) → set s.words i (get_or s.words i 0) ≡ words_of ((r.serving + r.waiting) % 2 ^ 64) (r.serving % 2 ^ 64) (length r.log)
+  same_words : (s : St) (r : R s) (i : ℕ) → set s.words i (get_or s.words i 0) ≡ words_of ((r.serving + r.waiting) % 2 ^ 64) (r.serving % 2 ^ 64) (length r.log) r.bells
   same_words s r i = set-get_or s.words i 0 ∙ r.words
 
   pub draws : (slots id : ℕ) (me : M) → IsAt Idle [] me → Allows R slots id me 0 (λ n. (n + 1) % 2 ^ 64) (Draws (step slots 0 1 0 none) me)
@@ -126,14 +133,14 @@ module _ {O E H : Type 0} (bounds : Bounds H) (stands : O → List (ℕ × E) �
       let one_more : t + 1 ≡ r.serving + (r.waiting + 1) = omega arith in
       let next : (get_or s.words 0 0 + 1) % 2 ^ 64 ≡ (r.serving + (r.waiting + 1)) % 2 ^ 64 =
       ap (λ n. (n + 1) % 2 ^ 64) found ∙ (mod-add-mod t (2 ^ 64) 1 ∙ ap (λ n. n % 2 ^ 64) one_more) in
-      let words : set s.words 0 ((get_or s.words 0 0 + 1) % 2 ^ 64) ≡ words_of ((r.serving + (r.waiting + 1)) % 2 ^ 64) (r.serving % 2 ^ 64) (length r.log) =
-      ap (λ ws. set ws 0 ((get_or s.words 0 0 + 1) % 2 ^ 64)) r.words ∙ ap (λ n. words_of n (r.serving % 2 ^ 64) (length r.log)) next in
+      let words : set s.words 0 ((get_or s.words 0 0 + 1) % 2 ^ 64) ≡ words_of ((r.serving + (r.waiting + 1)) % 2 ^ 64) (r.serving % 2 ^ 64) (length r.log) r.bells =
+      ap (λ ws. set ws 0 ((get_or s.words 0 0 + 1) % 2 ^ 64)) r.words ∙ ap (λ n. words_of n (r.serving % 2 ^ 64) (length r.log) r.bells) next in
       let none_yet : tickets_of v ≡ [] = ap (λ st. drawn st v.ticket) is.0 in
       let tickets : IsSpread tickets_of (set s.views id w) (range_with_len r.serving (r.waiting + 1)) = λ (f : ℕ → ℕ). omega (arith, total_set (λ u. sum_by f (tickets_of u)) s.views id v w at, ap (sum_by f) none_yet, r.tickets f, run_last f r.serving r.waiting) in (
         w,
         keeps,
         tt,
-        changed bounds stands home_of s r id v w at (set s.words 0 ((get_or s.words 0 0 + 1) % 2 ^ 64)) s.homes r.serving (r.waiting + 1) r.log words tickets refl (omega arith) r.known
+        changed bounds stands home_of s r id v w at (set s.words 0 ((get_or s.words 0 0 + 1) % 2 ^ 64)) s.homes r.serving (r.waiting + 1) r.log r.bells words tickets refl (omega arith) r.known
             (restaged s r id v w r.serving at refl refl refl tt (omega (arith, ap length is.1))) (λ j u _ _ f. f) (slot_kept s r id v w at (idle_only v.stage is.0) (λ h. absurd (cc h))),
         (t, found, refl),
       )
@@ -150,7 +157,7 @@ module _ {O E H : Type 0} (bounds : Bounds H) (stands : O → List (ℕ × E) �
         w,
         keeps,
         tt,
-        changed bounds stands home_of s r id v w at (set s.words 1 (get_or s.words 1 0)) s.homes r.serving r.waiting r.log (same_words s r 1)
+        changed bounds stands home_of s r id v w at (set s.words 1 (get_or s.words 1 0)) s.homes r.serving r.waiting r.log r.bells (same_words s r 1)
             (spread_kept tickets_of s.views (range_with_len r.serving r.waiting) id v w at same r.tickets) refl (omega arith) r.known
             (restaged s r id v w r.serving at refl refl refl (sym served) (omega (arith, ap length is.1))) (λ j u _ _ f. f)
             (slot_kept s r id v w at (λ h. absurd (cc (h, is.0))) (λ h. absurd (cc h))),
@@ -160,7 +167,7 @@ module _ {O E H : Type 0} (bounds : Bounds H) (stands : O → List (ℕ × E) �
         v,
         keeps,
         tt,
-        changed bounds stands home_of s r id v v at (set s.words 1 (get_or s.words 1 0)) s.homes r.serving r.waiting r.log (same_words s r 1)
+        changed bounds stands home_of s r id v v at (set s.words 1 (get_or s.words 1 0)) s.homes r.serving r.waiting r.log r.bells (same_words s r 1)
             (spread_kept tickets_of s.views (range_with_len r.serving r.waiting) id v v at refl r.tickets) refl (omega arith) r.known f (λ j u _ _ f. f)
             (slot_kept s r id v v at (λ h. absurd (cc (h, is.0))) (λ h. absurd (cc (h, is.0)))),
         ((λ e. absurd (ne e)), λ _. refl),
@@ -210,7 +217,7 @@ module _ {O E H : Type 0} (bounds : Bounds H) (stands : O → List (ℕ × E) �
         w,
         takes 0 held,
         ap (λ hs. get_elem? hs 0) home.1,
-        changed bounds stands home_of s r id v w at (set s.words 2 (get_or s.words 2 0)) (set s.homes 0 none) r.serving r.waiting r.log (same_words s r 2)
+        changed bounds stands home_of s r id v w at (set s.words 2 (get_or s.words 2 0)) (set s.homes 0 none) r.serving r.waiting r.log r.bells (same_words s r 2)
             (spread_kept tickets_of s.views (range_with_len r.serving r.waiting) id v w at same r.tickets) numbers (omega arith) r.known
             (seen_journal s r id v w r.log journal at j refl refl refl served refl) (λ j u _ _ f. f)
             (inr (id, w, set_here s.views id w (inside s.views id v at), refl)),
@@ -236,8 +243,8 @@ module _ {O E H : Type 0} (bounds : Bounds H) (stands : O → List (ℕ × E) �
       let roomy = room_at bounds stands home_of s r id v at in let limits = r.small in
       let found : get_or s.words 2 0 ≡ length r.log = ap (λ ws. get_or ws 2 0) r.words in
       let next : (get_or s.words 2 0 + 1) % 2 ^ 64 ≡ length journal = ap (λ n. (n + 1) % 2 ^ 64) found ∙ (mod-eq_of_lt (omega arith) ∙ sym length_is) in
-      let words : set s.words 2 ((get_or s.words 2 0 + 1) % 2 ^ 64) ≡ words_of ((r.serving + r.waiting) % 2 ^ 64) (r.serving % 2 ^ 64) (length journal) =
-      ap (λ ws. set ws 2 ((get_or s.words 2 0 + 1) % 2 ^ 64)) r.words ∙ ap (words_of ((r.serving + r.waiting) % 2 ^ 64) (r.serving % 2 ^ 64)) next in
+      let words : set s.words 2 ((get_or s.words 2 0 + 1) % 2 ^ 64) ≡ words_of ((r.serving + r.waiting) % 2 ^ 64) (r.serving % 2 ^ 64) (length journal) r.bells =
+      ap (λ ws. set ws 2 ((get_or s.words 2 0 + 1) % 2 ^ 64)) r.words ∙ ap (λ n. words_of ((r.serving + r.waiting) % 2 ^ 64) (r.serving % 2 ^ 64) n r.bells) next in
       let numbers : claim_numbers w ≡ claim_numbers v = ap (map (λ (c : Claim E). c.number)) (sym is.1) in
       let known : All (λ (y : ℕ × E). y.0 < r.dealt) journal = All-same (λ y. y.0 < r.dealt) journal (r.log ++ (n, x) ∷ []) longer
       (All-push (λ (y : ℕ × E). y.0 < r.dealt) r.log (n, x) r.known (dealt_number bounds stands home_of s r id v (own v) at is.1)) in
@@ -254,7 +261,7 @@ module _ {O E H : Type 0} (bounds : Bounds H) (stands : O → List (ℕ × E) �
         w,
         keeps,
         tt,
-        changed bounds stands home_of s r id v w at (set s.words 2 ((get_or s.words 2 0 + 1) % 2 ^ 64)) s.homes r.serving r.waiting journal words
+        changed bounds stands home_of s r id v w at (set s.words 2 ((get_or s.words 2 0 + 1) % 2 ^ 64)) s.homes r.serving r.waiting journal r.bells words
             (spread_kept tickets_of s.views (range_with_len r.serving r.waiting) id v w at refl r.tickets) numbers (omega arith) known
             (seen_journal s r id v w journal journal at refl refl refl refl fits.0 is.0) others
             (inr (id, w, set_here s.views id w (inside s.views id v at), is.0)),
@@ -274,7 +281,7 @@ module _ {O E H : Type 0} (bounds : Bounds H) (stands : O → List (ℕ × E) �
         w,
         gives,
         tt,
-        changed bounds stands home_of s r id v w at (set s.words 2 (get_or s.words 2 0)) (Rattle.atomic_table.specs.Table.put_back s.homes me.1) r.serving r.waiting r.log (same_words s r 2)
+        changed bounds stands home_of s r id v w at (set s.words 2 (get_or s.words 2 0)) (Rattle.atomic_table.specs.Table.put_back s.homes me.1) r.serving r.waiting r.log r.bells (same_words s r 2)
             (spread_kept tickets_of s.views (range_with_len r.serving r.waiting) id v w at tickets r.tickets) refl (omega arith) r.known
             (restaged s r id v w r.serving at refl refl refl fits.0 (omega (arith, ap length is.1))) (λ j u _ _ f. f)
             (inl (held, homes, record { journal = j; stood = subst (stands held.object) j stood; home = home ∙ ap (λ (x : Bounds H). x.home) same; room = omega (arith, ap (λ (x : Bounds H). x.room) same) }, none_out)),
@@ -289,8 +296,8 @@ module _ {O E H : Type 0} (bounds : Bounds H) (stands : O → List (ℕ × E) �
       let found : get_or s.words 1 0 ≡ r.serving % 2 ^ 64 = ap (λ ws. get_or ws 1 0) r.words in
       let next : (get_or s.words 1 0 + 1) % 2 ^ 64 ≡ (r.serving + 1) % 2 ^ 64 = ap (λ n. (n + 1) % 2 ^ 64) found ∙ mod-add-mod r.serving (2 ^ 64) 1 in
       let drawn_same : r.serving + r.waiting ≡ r.serving + 1 + (r.waiting - 1) = omega arith in
-      let words : set s.words 1 ((get_or s.words 1 0 + 1) % 2 ^ 64) ≡ words_of ((r.serving + 1 + (r.waiting - 1)) % 2 ^ 64) ((r.serving + 1) % 2 ^ 64) (length r.log) =
-      ap (λ ws. set ws 1 ((get_or s.words 1 0 + 1) % 2 ^ 64)) r.words ∙ (λ i. words_of (drawn_same i % 2 ^ 64) (next i) (length r.log)) in
+      let words : set s.words 1 ((get_or s.words 1 0 + 1) % 2 ^ 64) ≡ words_of ((r.serving + 1 + (r.waiting - 1)) % 2 ^ 64) ((r.serving + 1) % 2 ^ 64) (length r.log) r.bells =
+      ap (λ ws. set ws 1 ((get_or s.words 1 0 + 1) % 2 ^ 64)) r.words ∙ (λ i. words_of (drawn_same i % 2 ^ 64) (next i) (length r.log) r.bells) in
       let had : tickets_of v ≡ r.serving ∷ [] = ap (λ st. drawn st v.ticket) is.0 ∙ ap (λ n. n ∷ []) served in
       let tickets : IsSpread tickets_of (set s.views id w) (range_with_len (r.serving + 1) (r.waiting - 1)) = λ (f : ℕ → ℕ).
       omega (arith, total_set (λ u. sum_by f (tickets_of u)) s.views id v w at, ap (sum_by f) had, r.tickets f, run_first f r.serving r.waiting some_wait) in
@@ -306,8 +313,23 @@ module _ {O E H : Type 0} (bounds : Bounds H) (stands : O → List (ℕ × E) �
         w,
         keeps,
         tt,
-        changed bounds stands home_of s r id v w at (set s.words 1 ((get_or s.words 1 0 + 1) % 2 ^ 64)) s.homes (r.serving + 1) (r.waiting - 1) r.log words tickets refl (omega arith) r.known
+        changed bounds stands home_of s r id v w at (set s.words 1 ((get_or s.words 1 0 + 1) % 2 ^ 64)) s.homes (r.serving + 1) (r.waiting - 1) r.log r.bells words tickets refl (omega arith) r.known
             (restaged s r id v w (r.serving + 1) at refl refl refl tt (omega (arith, ap length is.1))) others
             (slot_kept s r id v w at (called_only v.stage is.0) (λ h. absurd (cc h))),
+        refl,
+      )
+
+  -- a bell tells nothing
+  pub rings : (slots id : ℕ) (me : M) (i new : ℕ) → 3 ≤ i → Allows R slots id me i (λ _. new) (λ _. Rings (step slots i new 0 none) me new)
+  rings slots id me i new bell s r one at small =
+      let v = me.0 in
+      let rung = set_bell i ((r.serving + r.waiting) % 2 ^ 64) (r.serving % 2 ^ 64) (length r.log) new r.bells bell in
+      let words = ap (λ ws. set ws i new) r.words ∙ rung.1 in (
+        v,
+        keeps,
+        tt,
+        changed bounds stands home_of s r id v v at (set s.words i new) s.homes r.serving r.waiting r.log rung.0 words
+            (spread_kept tickets_of s.views (range_with_len r.serving r.waiting) id v v at refl r.tickets) refl (omega arith) r.known (r.seats id v at) (λ j u _ _ f. f)
+            (subst (λ views. Home s.homes r.log views ⊎ IsOut views) (sym (set_again s.views id v at)) r.slot),
         refl,
       )

@@ -1,5 +1,6 @@
 -- The rule of the ticket lock: what its words, its slot and the views of its seats are between any two steps.
--- Word 0 counts the tickets that were drawn, word 1 those that were served, and word 2 is the length of the history. Slot 0 has the value.
+-- Word 0 counts the tickets that were drawn, word 1 those that were served, and word 2 is the length of the history. The words from 3 on are
+-- bells, of which the rule says nothing. Slot 0 has the value.
 use Rattle.std.specs.Prelude.{◌≡◌, ◌≢◌, ◌⊎◌, ℕ, ◌+◌, ◌%◌, ◌^◌, ◌<◌, ◌≤◌, List, [], ◌∷◌, map, length, All, Some, vec_capacity}
 use Rattle.std.specs.List.{sum_by, range_with_len}
 use mathlib.Core.Option.{some}
@@ -93,7 +94,8 @@ pub record OneLog {O E H : Type 0} (bounds : Bounds H) (stands : O → List (ℕ
   pub waiting : ℕ
   pub dealt : ℕ
   pub log : List (ℕ × E)
-  pub words : s.words ≡ (serving + waiting) % 2 ^ 64 ∷ serving % 2 ^ 64 ∷ length log ∷ []
+  pub bells : List ℕ
+  pub words : s.words ≡ (serving + waiting) % 2 ^ 64 ∷ serving % 2 ^ 64 ∷ length log ∷ bells
   pub tickets : IsSpread tickets_of s.views (range_with_len serving waiting)
   pub numbers : IsSpread claim_numbers s.views (range_with_len 0 dealt)
   pub dealt_in : dealt ≤ bounds.count

@@ -14,7 +14,7 @@ use Rattle.hist_lock.specs.Steps.{Sat, IsAt, IsFound, with_journal}
 
 -- the seat is one of this table, which is a lock's
 abbrev pub IsSeatOf : TableId → TableId → Type 0
-IsSeatOf seat line = (seat ≡ line) × (line.words ≡ 3) × (line.slots ≡ 1)
+IsSeatOf seat line = (seat ≡ line) × (line.words ≡ 19) × (line.slots ≡ 1)
 
 abbrev pub IsSameSeat : {S V : Type 0} → Seat S V → Seat S V → Type 0
 IsSameSeat s t = (t.table_id ≡ s.table_id) × (t.id ≡ s.id)

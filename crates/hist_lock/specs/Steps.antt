@@ -93,3 +93,7 @@ module _ {O E H : Type 0} where
 
   abbrev pub Serves : Step (Held O E) → Sat O E H → ℕ → Sat O E H → Type 0
   Serves s me found me' = me' ≡ (at_stage Idle me.0, me.1)
+
+  -- a bell is set, which tells the seat nothing
+  abbrev pub Rings : Step (Held O E) → Sat O E H → ℕ → Sat O E H → Type 0
+  Rings s me found me' = me' ≡ me

@@ -10,12 +10,31 @@ ghost use Rattle.hist_lock.specs.Steps.{IsAt, at_stage};
 ghost use Rattle.hist_lock.specs.Seats.{IsSeatOf, IsSameSeat, HasEntered, HasRun, HasNoted};
 
 use crate::rule::{Line, Place};
-use crate::steps::{SERVED, TICKETS, draw, give, look, raise, serve, take};
+use crate::steps::{bell_of, draw, give, look, raise, serve, set_bell, take};
 use crate::told::{Told, Turn};
-use crossbeam_utils::Backoff;
+use std::hint::spin_loop;
 use std::sync::Wait;
 
-// Waits until the ticket is served: a short while on the processor, and then asleep.
+/// What a bell says: 1 where someone may sleep at it.
+const AWAKE: u64 = 0;
+const ASLEEP: u64 = 1;
+
+// Who is so few turns from its own looks more often before it sleeps, and is woken if it sleeps.
+const NEAR: u64 = 4;
+const LOOKS_NEAR: u32 = 100;
+const LOOKS_FAR: u32 = 10;
+
+// How often it looks before it sleeps.
+fn patience(ticket: u64, served: u64) -> u32 {
+    if ticket.wrapping_sub(served) <= NEAR {
+        LOOKS_NEAR
+    } else {
+        LOOKS_FAR
+    }
+}
+
+// Waits until the ticket is served: a short while on the processor, and then asleep at its bell. Between setting the bell and
+// sleeping it looks once more, so that who serves after that look finds the bell set.
 fn wait_for<O: Told, R: Wait>(rt: &R, line: &Line<O>, seat: &mut Place<O>, ticket: u64)
     requires of { IsSeatOf seat.old.table_id line.now.table_id }
     requires waits { IsAt Waiting [] seat.old.me }
@@ -23,19 +42,40 @@ fn wait_for<O: Told, R: Wait>(rt: &R, line: &Line<O>, seat: &mut Place<O>, ticke
     ensures same { IsSameSeat seat.old seat.new }
     ensures called { seat.new.me ≡ (at_stage Called seat.old.me.0, []) }
 {
-    let backoff = Backoff::new();
+    let bell = bell_of(ticket);
+    let mut looks = 0;
+    let mut is_set = false;
     for _ in rt.forever() {
         let served = look(line, seat);
         if served == ticket {
             return;
         }
-        if backoff.is_completed() {
-            line.park(rt, SERVED, (served & 0xffff_ffff) as u32);
+        if looks < patience(ticket, served) {
+            looks += 1;
+            spin_loop();
+        } else if is_set {
+            line.park(rt, bell, ASLEEP as u32);
+            looks = 0;
+            is_set = false;
         } else {
-            backoff.snooze();
+            set_bell(line, seat, bell, ASLEEP);
+            is_set = true;
         }
     }
     unreachable!()
+}
+
+// Wakes who sleeps at the bell of this ticket.
+fn rouse<O: Told>(line: &Line<O>, seat: &mut Place<O>, ticket: u64)
+    requires { IsSeatOf seat.old.table_id line.now.table_id }
+    ensures same { IsSameSeat seat.old seat.new }
+    ensures me { seat.new.me ≡ seat.old.me }
+{
+    let bell = bell_of(ticket);
+    if line.peek(bell) != AWAKE {
+        set_bell(line, seat, bell, AWAKE);
+        line.wake_all(bell);
+    }
 }
 
 /// Waits for the value and takes it.
@@ -113,8 +153,8 @@ pub fn note<O: Told>(
     }
 }
 
-/// Gives the value back and lets the next ticket be served. Who sleeps is woken; who draws a ticket after the look at the
-/// tickets finds itself served, or waits for one who will wake it.
+/// Gives the value back and lets the next ticket be served. Wakes its holder where it sleeps, and the holder of one a few
+/// turns on, which has come up by then.
 pub fn leave<O: Told>(line: &Line<O>, seat: &mut Place<O>)
     requires of { IsSeatOf seat.old.table_id line.now.table_id }
     requires whole { (held : Held O O.Entry) × (b : Bounds O.Home) × IsAt Holding ((0, held) ∷ []) seat.old.me ×
@@ -124,8 +164,7 @@ pub fn leave<O: Told>(line: &Line<O>, seat: &mut Place<O>)
     ensures left { seat.new.me ≡ (at_stage Idle seat.old.me.0, []) }
 {
     give(line, seat);
-    let served = serve(line, seat);
-    if line.peek(TICKETS) != served.wrapping_add(1) {
-        line.wake_all(SERVED);
-    }
+    let next = serve(line, seat).wrapping_add(1);
+    rouse(line, seat, next);
+    rouse(line, seat, next.wrapping_add(NEAR));
 }

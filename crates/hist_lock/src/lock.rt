@@ -33,7 +33,7 @@ impl<O: Told> Model for HistLock<O> {
 
     ghost view = { λ l. site_of l.table.shared.table_id (bounds_of O.home l.table.shared.key) };
 
-    ghost invariant = { λ l. (l.table.shared.table_id.words ≡ 3) × (l.table.shared.table_id.slots ≡ 1) × (0 < l.table.shared.key.count) };
+    ghost invariant = { λ l. (l.table.shared.table_id.words ≡ 19) × (l.table.shared.table_id.slots ≡ 1) × (0 < l.table.shared.key.count) };
 }
 
 impl<O: Told + Drop> HistLock<O> {

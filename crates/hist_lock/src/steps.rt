@@ -7,7 +7,7 @@ ghost use Rattle.hist_lock.specs.Rule.{own};
 ghost use Rattle.hist_lock.specs.Steps.{IsAt, IsFound, drew, at_stage, took, raised, journal_of, joined, dealt_one, newcomer};
 ghost use Rattle.hist_lock.specs.Seats.{IsSeatOf, IsSameSeat};
 
-use crate::rule::{Deal, Draw, Gather, Give, Line, Look, Place, Quota, Raise, Serve, Take};
+use crate::rule::{Deal, Draw, Gather, Give, Line, Look, Place, Quota, Raise, Ring, Serve, Take};
 use crate::told::Told;
 
 /// The word that counts the tickets that were drawn.
@@ -18,6 +18,15 @@ pub const SERVED: usize = 1;
 
 /// The word that has the length of the history.
 pub const LENGTH: usize = 2;
+
+// The first bell.
+const BELLS: usize = 3;
+
+// How many bells there are.
+const BELL_COUNT: u64 = 16;
+
+/// How many words there are.
+pub const WORDS: usize = BELLS + BELL_COUNT as usize;
 
 /// Draws a ticket.
 pub fn draw<O: Told>(line: &Line<O>, seat: &mut Place<O>) -> u64
@@ -83,6 +92,23 @@ pub fn serve<O: Told>(line: &Line<O>, seat: &mut Place<O>) -> u64
     ensures served { seat.new.me ≡ (at_stage Idle seat.old.me.0, []) }
 {
     line.fetch_add::<Serve>(seat, SERVED, 1)
+}
+
+/// The bell at which the holder of this ticket sleeps. Holders share one where their tickets are equal modulo 16.
+pub fn bell_of(ticket: u64) -> usize
+    ensures { (3 ≤ result) × (result < 19) }
+{
+    BELLS + (ticket % BELL_COUNT) as usize
+}
+
+/// Sets a bell.
+pub fn set_bell<O: Told>(line: &Line<O>, seat: &mut Place<O>, bell: usize, to: u64)
+    requires of { IsSeatOf seat.old.table_id line.now.table_id }
+    requires bell { (3 ≤ bell) × (bell < 19) }
+    ensures same { IsSameSeat seat.old seat.new }
+    ensures me { seat.new.me ≡ seat.old.me }
+{
+    line.store::<Ring>(seat, bell, to);
 }
 
 /// Deals the next pass's seat.
