@@ -192,3 +192,26 @@ fn a_text_written_whole(rt: HostRuntime) -> Result<(), Fail> {
     assert_eq!(rt; failing.bytes(), b"ab".as_slice());
     Ok(())
 }
+
+/// The last fault that a stream can count: before it, the count stands at its last value but one.
+#[test]
+fn the_last_fault_that_can_be_counted(rt: HostRuntime) -> Result<(), Fail> {
+    let mut source = StdSource {
+        reader: Broken {
+            takes_nothing: false,
+        },
+        faults: u64::MAX - 1,
+    };
+    assert_eq!(rt; source.read(&mut [0]), Err(Failed));
+    assert_eq!(rt; source.faults, u64::MAX);
+
+    let mut sink = StdSink {
+        writer: Broken {
+            takes_nothing: true,
+        },
+        faults: u64::MAX - 1,
+    };
+    assert_eq!(rt; write_all(&mut sink, b"a"), Err(Failed));
+    assert_eq!(rt; sink.faults, u64::MAX);
+    Ok(())
+}

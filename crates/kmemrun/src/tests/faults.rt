@@ -1,7 +1,13 @@
 //! A fault at each call of each stream.
+ghost use Rattle.std.specs.Prelude.{◌≡◌};
 
 use super::{Streams, run_by_bytes};
+use crate::Open;
 use crate::status::Status;
+use crate::top::top;
+use kmem_io::{StdSink, StdSource};
+use std::io;
+use std::io::{Read, Write};
 use std::test::Fail;
 
 /// Words, an input, and what they write.
@@ -110,5 +116,72 @@ fn the_first_draws(rt: HostRuntime) -> Result<(), Fail> {
     assert_eq!(rt; ran.status, Status::Fine);
     assert!(rt; ran.out.bytes().starts_with(b"commands 1\nnew 0\n"));
     assert!(rt; ran.out.bytes().ends_with(b"idle 1\nlive 0\n"));
+    Ok(())
+}
+
+/// A stream that always fails.
+#[derive(Drop)]
+struct Broken;
+
+impl Read for Broken {
+    fn read(&mut self, _buffer: &mut [u8]) -> io::Result<usize> {
+        Err(io::Error::from(io::ErrorKind::Other))
+    }
+}
+
+impl Write for Broken {
+    fn write(&mut self, _piece: &[u8]) -> io::Result<usize> {
+        Err(io::Error::from(io::ErrorKind::Other))
+    }
+
+    fn flush(&mut self) -> io::Result<()> {
+        Ok(())
+    }
+}
+
+const LAST_BUT_ONE: u64 = u64::MAX - 1;
+
+fn broken_sink() -> StdSink<Broken>
+    ensures { result.faults ≡ 18446744073709551614 }
+{
+    StdSink {
+        writer: Broken,
+        faults: LAST_BUT_ONE,
+    }
+}
+
+/// The input's count of faults stands at its last value but one, and so does that of the line: both fail once more.
+#[test]
+fn a_read_fault_at_the_last_count_but_one(rt: HostRuntime) -> Result<(), Fail> {
+    let mut input = StdSource {
+        reader: Broken,
+        faults: LAST_BUT_ONE,
+    };
+    let (mut out, mut err) = (broken_sink(), broken_sink());
+    let words = ["one", "2", "2"];
+    let ended = top(&rt, rt.alloc(), &words, &mut input, &mut out, &mut err, &Open);
+    assert_eq!(rt; ended.status, Status::ReadFault);
+    assert_eq!(rt;
+        (input.faults, out.faults, err.faults),
+        (u64::MAX, LAST_BUT_ONE, u64::MAX)
+    );
+    Ok(())
+}
+
+/// The same for the output.
+#[test]
+fn a_write_fault_at_the_last_count_but_one(rt: HostRuntime) -> Result<(), Fail> {
+    let mut input = StdSource {
+        reader: b"1 count\n".as_slice(),
+        faults: LAST_BUT_ONE,
+    };
+    let (mut out, mut err) = (broken_sink(), broken_sink());
+    let words = ["one", "2", "2"];
+    let ended = top(&rt, rt.alloc(), &words, &mut input, &mut out, &mut err, &Open);
+    assert_eq!(rt; ended.status, Status::WriteFault);
+    assert_eq!(rt;
+        (input.faults, out.faults, err.faults),
+        (LAST_BUT_ONE, u64::MAX, u64::MAX)
+    );
     Ok(())
 }
