@@ -1,5 +1,6 @@
-// The same commands by std threads over one map of records under a mutex: plain WORKERS < script.
-// It has no slabs, no moves and no proofs; it prints replies by worker and one history, as `kmemrun run` does.
+// The same commands by std threads over one map of records under a mutex: plain WORKERS < script; or on one thread: plain one < script.
+// It has no slabs, no moves and no proofs; it prints replies by worker and one history, as `kmemrun run` does, or the replies alone, as
+// `kmemrun one` does.
 use std::collections::BTreeMap;
 use std::io::{Read, Write};
 use std::sync::Mutex;
@@ -166,10 +167,26 @@ fn read_line(line: &str) -> (usize, Command<'_>) {
     (words[0].parse().unwrap(), command)
 }
 
+fn run_one(text: &str) {
+    let mut records = Records::default();
+    let mut out = std::io::BufWriter::new(std::io::stdout());
+    for line in text.lines() {
+        let (worker, command) = read_line(line);
+        writeln!(out, "{}", records.step(worker, command)).unwrap();
+    }
+}
+
 fn main() {
-    let workers: usize = std::env::args().nth(1).unwrap().parse().unwrap();
+    let mode = std::env::args().nth(1).unwrap();
     let mut text = String::new();
     std::io::stdin().read_to_string(&mut text).unwrap();
+    if mode == "one" {
+        return run_one(&text);
+    }
+    run(&text, mode.parse().unwrap());
+}
+
+fn run(text: &str, workers: usize) {
     let mut shares: Vec<Vec<Command>> = (0..workers).map(|_| Vec::new()).collect();
     for line in text.lines() {
         let (worker, command) = read_line(line);
