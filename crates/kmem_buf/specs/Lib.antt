@@ -3,3 +3,4 @@ pub mod Buffers
 pub mod Homes
 pub mod Answers
 pub mod Board
+pub mod Owners

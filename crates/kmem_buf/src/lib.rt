@@ -6,6 +6,7 @@ mod buf;
 mod client;
 mod home;
 mod kind;
+mod owner;
 mod shown;
 mod stub;
 #[cfg(test)]
@@ -16,4 +17,5 @@ pub use buf::{Buf, Buffer, Cell, Cells};
 pub use client::{Answer, MoveClient, Verdict};
 pub use home::{FullNote, Home};
 pub use kind::Kind;
+pub use owner::{Owner, Stand};
 pub use stub::{Slip, Stub};
