@@ -3,10 +3,12 @@ use Rattle.std.specs.List.{sum_by, range_with_len}
 use Rattle.std.proofs.lemmas.List.Elements.{All-map, All-same, All-weaker}
 use Rattle.table_sums.proofs.Spreads.{numbering}
 use Rattle.kmem_buf.specs.Buffers.{BufState}
+use Rattle.kmem_buf.specs.Homes.{Homes}
 use Rattle.kmem_model.specs.CacheHistory.{Reaches}
 use Rattle.kmem_model.specs.CacheCounts.{made_out, made_free, total, entries_in}
 use Rattle.kmem_model.specs.declared.cache_entry.CacheEntry.{CacheEntry}
 use Rattle.magazine.specs.Layer.{Layer, layer_rounds}
+use Rattle.magazine.specs.Ready.{AreReady}
 use Rattle.hist_lock.specs.History.{IsFront, entries_of}
 use Rattle.hist_lock.specs.Passes.{PassState}
 use Rattle.depot.specs.Depot.{DepotSeatState, IsDepotSeat}
@@ -44,6 +46,11 @@ flush_cpus-requires g c =
           (All-weaker (IsCacheSeat c.args.self) (λ s. s.pass.site.home.buffers ≡ locked.cache.home)
           (λ s is. ap (λ k. k.home.buffers) is.0 ∙ (sym (ap (λ k. k.lock.home.buffers) c.self.view_is) ∙ sym (ap (λ k. k.buffers) c.close-locked.ensures.home))) rev of);
     }
+
+pub flush_magazines-requires : goal.flush_magazines-requires
+flush_magazines-requires g c =
+    let home = c.self.invariant.home ∙ (sym (ap (λ k. k.buffers) c.close-locked.ensures.home) ∙ sym c.flush_cpus.ensures.home) in
+    record { ready = subst (λ (h : Homes). All (AreReady g.K.Kind.constructed h) c.close-magazines.result.items) home c.close-magazines.ensures.ready }
 
 pub returns-clause-closed : goal.returns-clause-closed
 returns-clause-closed g c =
