@@ -3,14 +3,14 @@ ghost use Rattle.std.specs.Prelude.{◌≡◌, ◌≤◌, ◌<◌, ◌*◌, ◌/
 ghost use Rattle.std.specs.FinSet as set;
 ghost use Rattle.kmem_buf.specs.Homes.{IsBufferOf};
 ghost use Rattle.kmem_model.specs.CacheState.{slab_at, slab_in_source, is_listed, free_buffers};
-ghost use Rattle.kmem_model.specs.CacheOrder.{wanted, first_partial_free};
+ghost use Rattle.kmem_model.specs.CacheOrder.{wanted, first_partial, first_partial_free};
 ghost use Rattle.kmem_model.specs.CacheEnter.{is_full, slab_taken, slab_freed, slab_listed, slab_answered, slab_given_back, unmarked};
 ghost use Rattle.slab_list.specs.Slabs.{IsFree, is_out_in, on_slab, on_buffer, fresh_slab};
 ghost use Rattle.kmem_answers.specs.Words.{said_of};
 ghost use Rattle.object_cache.specs.Stock.{bare, AreHeld, OthersAreUsed, IsStocked, IsRoom, emptied_to, slab_closed};
 
 use kmem_buf::{Buf, Buffer, Kind, Verdict};
-use kmem_model::law_order;
+use kmem_model::{Steps, law_order};
 use slab_list::SlabList;
 use slab_source::Supply;
 use std::alloc::{AllocError, Global};
@@ -90,8 +90,18 @@ impl<K: Kind> Stock<K> {
         ensures free { IfSome result (IsFree self.now) }
         ensures none { IsNone result → All (λ slab. is_listed slab ≡ true → free_buffers slab ≡ 0) self.now.slabs }
     {
+        self.first_partial_free_on(self.list.first_partial(&mut Steps::create()))
+    }
+
+    /// The same, where the first partial slab was found already.
+    pub fn first_partial_free_on(&self, first: Option<u32>) -> Option<u32>
+        requires { first ≡ first_partial self.now.slabs }
+        ensures first { result ≡ first_partial_free self.now.chunks self.now.slabs }
+        ensures free { IfSome result (IsFree self.now) }
+        ensures none { IsNone result → All (λ slab. is_listed slab ≡ true → free_buffers slab ≡ 0) self.now.slabs }
+    {
         law_order();
-        self.list.first_free()
+        self.list.first_free_on(first)
     }
 
     /// Where the buffer lies that is taken next, if one is free.

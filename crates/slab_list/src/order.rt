@@ -27,9 +27,19 @@ impl<K: Kind> SlabList<K> {
         ensures room { IfSome result (IsFree self.now) }
         ensures none { (result ≡ None) ↔ All (λ slab. is_listed slab ≡ true → free_buffers slab ≡ 0) self.now.slabs }
     {
+        self.first_free_on(self.first_partial(&mut Steps::create()))
+    }
+
+    /// The same, where the first partial slab was found already.
+    pub fn first_free_on(&self, first: Option<u32>) -> Option<u32>
+        requires { first ≡ first_partial self.now.slabs }
+        ensures free { result ≡ free_next self.now }
+        ensures room { IfSome result (IsFree self.now) }
+        ensures none { (result ≡ None) ↔ All (λ slab. is_listed slab ≡ true → free_buffers slab ≡ 0) self.now.slabs }
+    {
         law_order();
         self.law_whole();
-        match self.first_partial(&mut Steps::create()) {
+        match first {
             Some(slab) => self.least_free(slab),
             None => self.first_unused(),
         }
@@ -44,10 +54,28 @@ impl<K: Kind> SlabList<K> {
             (λ b. slice_index_or skip.now b false) self.now.slabs }
         ensures out { IfSome result (λ b. (b < length self.now.cells) × (is_out_in self.now b ≡ true)) }
     {
+        let first = self.first_partial(&mut Steps::create());
+        self.last_reclaimable_after(first, numer, desperate, skip)
+    }
+
+    /// The same, where the first partial slab was found already.
+    pub fn last_reclaimable_after(
+        &self,
+        first: Option<u32>,
+        numer: u32,
+        desperate: bool,
+        skip: &[bool],
+    ) -> Option<u32>
+        requires first { first ≡ first_partial self.now.slabs }
+        requires skip { length skip.now ≡ length self.now.cells }
+        ensures choice { result ≡ last_reclaimable self.now.chunks numer (mode_of desperate)
+            (λ b. slice_index_or skip.now b false) self.now.slabs }
+        ensures out { IfSome result (λ b. (b < length self.now.cells) × (is_out_in self.now b ≡ true)) }
+    {
         let rule = Rule {
             numer,
             desperate,
-            first: self.first_partial(&mut Steps::create()),
+            first,
         };
         let slab = self.last_to_ask(rule, skip)?;
         self.least_to_move(rule, skip, slab)

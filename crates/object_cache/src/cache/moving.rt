@@ -3,7 +3,7 @@ ghost use Rattle.std.specs.Prelude.{◌≡◌, ◌≢◌, ◌<◌, ◌↔◌, tr
 ghost use Rattle.kmem_buf.specs.Answers.{IsAnswerTo, buffers_back, numbers_of, verdict_of};
 ghost use Rattle.kmem_buf.specs.Homes.{IsBufferOf};
 ghost use Rattle.kmem_model.specs.CacheState.{is_out};
-ghost use Rattle.kmem_model.specs.CacheOrder.{chosen, is_idle, is_off};
+ghost use Rattle.kmem_model.specs.CacheOrder.{chosen, first_partial, is_idle, is_off};
 ghost use Rattle.kmem_model.specs.CacheEnter.{enter, all_freed, with_answer, without_move};
 ghost use Rattle.kmem_model.specs.CacheHistory.{MayEnter};
 ghost use Rattle.kmem_model.specs.declared.cache_entry.CacheEntry.TheVariants.{Scan, Begin, Idle, Gone, End, Forget};
@@ -17,7 +17,7 @@ use crate::counts;
 use crate::moves::{Begun, Job, Pending};
 use crate::stock::Room;
 use kmem_buf::{Answer, Kind, Verdict};
-use kmem_model::{Mode, law_order};
+use kmem_model::{Mode, Steps, law_order};
 
 // The next move: its number, and its buffers.
 #[derive(Clone, Copy)]
@@ -107,32 +107,42 @@ impl<K: Kind> ObjectCache<K> {
         ensures none { IsNone result → is_idle self.now.state ≡ true }
     {
         law_order();
-        let from = self.choice()?;
+        let first = self.first_partial();
+        let from = self.choice(first)?;
         let number = self.moves.free_number()?;
-        let to = self.stock.first_partial_free()?;
+        let to = self.stock.first_partial_free_on(first)?;
         Some(Plan { number, from, to })
     }
 
+    fn first_partial(&self) -> Option<u32>
+        ensures { result ≡ first_partial self.now.state.slabs }
+    {
+        let list = self.stock.list();
+        list.first_partial(&mut Steps::create())
+    }
+
     // The buffer that the scan asks about next.
-    fn choice(&self) -> Option<u32>
+    fn choice(&self, first: Option<u32>) -> Option<u32>
+        requires { first ≡ first_partial self.now.state.slabs }
         ensures some { IfSome result (λ b. (is_off self.now.state.mode ≡ false) × (chosen self.now.state ≡ Some b) ×
             (b < length self.now.state.asked)) }
         ensures none { IsNone result → is_idle self.now.state ≡ true }
     {
         match self.scan.mode {
             Mode::Off => None,
-            Mode::Mild => self.last_to_ask(false),
-            Mode::Desperate => self.last_to_ask(true),
+            Mode::Mild => self.last_to_ask(first, false),
+            Mode::Desperate => self.last_to_ask(first, true),
         }
     }
 
-    fn last_to_ask(&self, desperate: bool) -> Option<u32>
-        requires { self.now.state.mode ≡ mode_of desperate }
+    fn last_to_ask(&self, first: Option<u32>, desperate: bool) -> Option<u32>
+        requires mode { self.now.state.mode ≡ mode_of desperate }
+        requires first { first ≡ first_partial self.now.state.slabs }
         ensures choice { result ≡ chosen self.now.state }
         ensures range { IfSome result (λ b. b < length self.now.state.asked) }
     {
         let list = self.stock.list();
-        list.last_reclaimable(self.scan.numerator, desperate, self.moves.skip())
+        list.last_reclaimable_after(first, self.scan.numerator, desperate, self.moves.skip())
     }
 
     fn begin_move(&mut self, plan: Plan, object: K::Object) -> Job<K>

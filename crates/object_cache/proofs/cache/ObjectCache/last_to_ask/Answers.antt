@@ -11,8 +11,8 @@ returns-clause-choice g c =
     let s = (cache_of f.stock f.moves f.scan).state in
     let skip : ℕ → Bool = λ b. get_or c.skip.result.now b false in
     let same : skip ≡ is_left_out s = λ i b. c.skip.ensures.left_out b i in
-    let mode = sym c.requires ∙ ap (λ (v : CacheView). v.state.mode) (sym c.self.view_is) in
-    c.last_reclaimable.ensures.choice
+    let mode = sym c.requires.mode ∙ ap (λ (v : CacheView). v.state.mode) (sym c.self.view_is) in
+    c.last_reclaimable_after.ensures.choice
     ∙ (ap (λ (l : ListState). last_reclaimable l.chunks f.scan.numerator (mode_of c.args.desperate) skip l.slabs) c.list-list.ensures
     ∙ (ap (λ (m : Mode). last_reclaimable f.stock.chunks f.scan.numerator m skip f.stock.slabs) mode
     ∙ (ap (λ (k : ℕ → Bool). last_reclaimable f.stock.chunks f.scan.numerator f.scan.mode k f.stock.slabs) same

@@ -30,7 +30,7 @@ returns-clause-some g c =
     let least : IsLeastBelow (length s.pending) (λ j. is_none (get_or s.pending j None)) n =
     (c.law_order.ensures.least (length s.pending) n (λ j. is_none (get_or s.pending j None))).0 number in
     let idle = none_says (get_or s.pending n None) least.passes in
-    let first = ap (λ (v : CacheView). first_partial_free v.state.chunks v.state.slabs) (sym c.self.view_is) ∙ (sym c.first_partial_free.ensures.first ∙ c.in_ok-to.was) in
+    let first = ap (λ (v : CacheView). first_partial_free v.state.chunks v.state.slabs) (sym c.self.view_is) ∙ (sym c.first_partial_free_on.ensures.first ∙ c.in_ok-to.was) in
     record {
       may = may s n c.in_ok-from.from b c.in_ok-from.ensures.some.0 c.in_ok-from.ensures.some.1 number least.below idle first;
       number_in = least.below;
