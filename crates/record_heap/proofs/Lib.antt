@@ -11,3 +11,4 @@ pub mod Holds
 pub mod Puts
 pub mod Benches
 pub mod Sizes
+pub mod Tenants

@@ -5,4 +5,5 @@ pub mod Tags
 pub mod Changes
 pub mod Kept
 pub mod Puts
+pub mod Tenants
 pub mod Bench

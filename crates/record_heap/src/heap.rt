@@ -8,6 +8,7 @@ ghost use Rattle.record_heap.specs.View.{IsReplyBy};
 mod holds;
 mod moving;
 mod names;
+mod owner;
 mod put;
 
 use crate::cell::RecordKind;
@@ -15,6 +16,7 @@ use crate::parts::Parts;
 use kmem_buf::{Cells, Home};
 use kmem_model::law_step;
 use kmem_text::{NameId, Reply};
+pub use owner::{RecordMeaning, RecordTenant};
 pub use put::{Offer, PutEnd};
 use std::alloc::{AllocError, Global};
 use std::marker::Model;

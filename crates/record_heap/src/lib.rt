@@ -8,7 +8,7 @@ mod parts;
 mod shelf;
 
 pub use cell::{RecordCell, RecordKind};
-pub use heap::{Offer, PutEnd, RecordHeap};
+pub use heap::{Offer, PutEnd, RecordHeap, RecordMeaning, RecordTenant};
 pub use hold::Hold;
 
 #[cfg(test)]
