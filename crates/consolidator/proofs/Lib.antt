@@ -1,4 +1,5 @@
 pub mod Within
+pub mod Owning
 pub mod Turns
 pub mod Sums
 pub mod Working

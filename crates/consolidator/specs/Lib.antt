@@ -1,5 +1,6 @@
 pub mod Tallies
 pub mod Settles
+pub mod Owned
 pub mod Notes
 pub mod Rounds
 pub mod Works
