@@ -12,3 +12,4 @@ pub mod Puts
 pub mod Benches
 pub mod Sizes
 pub mod Tenants
+pub mod Present

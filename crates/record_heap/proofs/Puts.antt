@@ -1,5 +1,5 @@
 -- A new record, a leftover that goes, and an object that moves: what they keep, and that the map is the next one or stays.
-use Rattle.std.proofs.Common.{◌≡◌, ℕ, zero, suc, ◌+◌, ◌-◌, ◌*◌, ◌<◌, ◌≤◌, Bool, true, false, List, [], ◌∷◌, ◌++◌, length, get_or, set, map, replicate, count_by, Option, Some, None, is_some, option_map, sym, ◌∙◌, ap, ap₂, refl, subst, arith, ⊎_elim}
+use Rattle.std.proofs.Common.{◌≡◌, ℕ, zero, suc, ◌+◌, ◌-◌, ◌*◌, ◌<◌, ◌≤◌, ◌^◌, Bool, true, false, List, [], ◌∷◌, ◌++◌, length, get_or, set, map, replicate, count_by, Option, Some, None, is_some, option_map, sym, ◌∙◌, ap, ap₂, refl, subst, arith, ⊎_elim}
 use Rattle.std.proofs.lemmas.Bool.{both_ways, cases_lt, false_from_ne_true}
 use Rattle.std.proofs.lemmas.List.{length-set, length-replicate, get_or-replicate, get_or_past}
 use Rattle.kmem_text.specs.declared.command.Reply.TheVariants.{Was}
@@ -132,4 +132,17 @@ nothing_stands names workers objects =
       apart = λ i j lives other same. absurd (both_ways false refl lives);
       count = count_zero has_record objects refl;
       tied = tied_nothing names (8 * workers) objects;
+    }
+
+pub nothing_kept : (names workers objects : ℕ) → names < 2 ^ 32 → workers ≤ 16 → objects ≤ 65536 → IsHeapKept (nothing names (8 * workers) objects) 0 0 0
+nothing_kept names workers objects few_names few_workers few_objects =
+    record {
+      tied = tied_nothing names (8 * workers) objects;
+      whole = λ b o e. absurd (cc (sym e ∙ none_at objects b));
+      names = omega (arith, length-replicate {A = Option ℕ} names None);
+      tags = omega (arith, length-replicate {A = Option ℕ} (8 * workers) None);
+      objects = omega (arith, length-replicate {A = Option Object} objects None);
+      names_counted = sym (count_zero is_some names refl);
+      records_counted = sym (count_zero has_record objects refl);
+      leftovers_counted = sym (count_zero is_leftover objects refl);
     }

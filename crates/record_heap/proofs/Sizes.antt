@@ -1,5 +1,5 @@
 -- A heap and the map that it is paired with have as many names and tags.
-use Rattle.std.proofs.Common.{◌≡◌, ◌<◌, ℕ, List, length, Option, Some, None, is_some, option_map, sym, ap, ◌∙◌}
+use Rattle.std.proofs.Common.{◌≡◌, ◌<◌, ℕ, List, length, Some, is_some, option_map, sym, ap, ◌∙◌}
 use Rattle.std.proofs.lemmas.List.{length-map}
 use Rattle.kmem_model.specs.Records.{RecordMap}
 use Rattle.kmem_model.specs.Heap.{HeapState, IsPaired, address_of, address_in}

@@ -7,3 +7,4 @@ pub mod Kept
 pub mod Puts
 pub mod Tenants
 pub mod Bench
+pub mod Present

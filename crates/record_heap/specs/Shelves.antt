@@ -3,7 +3,8 @@ use Rattle.std.specs.Prelude.{ℕ, ◌≡◌, ◌≤◌, List, Option, Some, Non
 use Rattle.atomic_table.specs.Seated.{TableId}
 use Rattle.kmem_buf.specs.Buffers.{BufState}
 use Rattle.kmem_buf.specs.Homes.{Homes, IsBufferOf}
-use Rattle.kmem_model.specs.Heap.{Object}
+use Rattle.number_set.specs.Sets.{SetState, has}
+use Rattle.kmem_model.specs.Heap.{Object, is_leftover}
 
 -- the object at each number, and the homes of the cache whose buffers these are
 pub record ShelfState : Type 0 where
@@ -19,3 +20,8 @@ pub record AreShelved (cells : List TableId) (bufs : List (Option (BufState Obje
   pub size : length bufs ≡ length cells
   pub few : length bufs ≤ 65536
   pub placed : (n : ℕ) (b : BufState Object) → slice_index_or bufs n None ≡ Some b → (b.number ≡ n) × IsBufferOf cells b
+
+-- the set has exactly the numbers at which there is a leftover
+pub record AreLeftovers (objects : List (Option Object)) (leftovers : SetState) : Type 0 where
+  pub room : length objects ≤ length leftovers.flags
+  pub same : (b : ℕ) → has leftovers b ≡ is_leftover (slice_index_or objects b None)

@@ -1,14 +1,13 @@
 -- What contracts see of a record heap and of a hold, and what it means that a call does a step of the record map (this project's own).
-use Rattle.std.specs.Prelude.{ℕ, ◌≡◌, true, false, List, [], ◌∷◌, ◌++◌, Option, Some, length, slice_get, slice_set, refl}
+use Rattle.std.specs.Prelude.{ℕ, ◌≡◌, true, false, List, [], ◌∷◌, ◌++◌, Some, length, slice_get, slice_set, refl}
 use Rattle.std.specs.Coded.{Coded, code_by, coded×, coded_ℕ}
 use Rattle.atomic_table.specs.Seated.{TableId, table_id_coded}
 use Rattle.kmem_text.specs.declared.command.Reply.{Reply}
 use Rattle.kmem_buf.specs.Buffers.{BufState}
 use Rattle.kmem_buf.specs.Homes.{Homes, IsBufferOf}
-use Rattle.kmem_model.specs.CacheOrder.{least_below}
 use Rattle.kmem_model.specs.Records.{RecordMap, tag_place, id_of, is_live}
 use Rattle.kmem_model.specs.RecordStep.{put_step, del_step}
-use Rattle.kmem_model.specs.Heap.{Object, HeapState, StandsFor, blank, address_of, object_at, is_leftover, address_in, places_of}
+use Rattle.kmem_model.specs.Heap.{Object, HeapState, StandsFor, blank, address_of, address_in, places_of}
 
 -- a heap: its names, tags and objects, the homes of the cache whose buffers it takes, and the homes of the stubs of its tags, by place
 pub record HeapView : Type 0 where

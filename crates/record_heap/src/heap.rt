@@ -1,5 +1,6 @@
 //! The record heap.
-ghost use Rattle.std.specs.Prelude.{◌≡◌, ◌≤◌, ◌<◌, ◌*◌, ◌+◌, ◌^◌, ℕ, true, false, List, [], Some, None, is_some, length, replicate, IfOk, IfSome};
+ghost use Rattle.std.specs.Prelude.{◌≡◌, ◌≤◌, ◌<◌, ◌*◌, ◌+◌, ◌^◌, ◌&&◌, nat_le, option_map, ℕ, true, false, List, [], Some, None, is_some, length, replicate, IfOk, IfSome};
+ghost use Rattle.kmem_model.specs.CacheOrder.{least_below};
 ghost use Rattle.kmem_model.specs.Records.{RecordMap, no_records, id_of, least_name, present_count, live_count, tag_place};
 ghost use Rattle.kmem_model.specs.RecordStep.{stays, get_step, at_step};
 ghost use Rattle.kmem_model.specs.Heap.{StandsFor, address_of, hold_at, object_at, kept_count, leftover_count};
@@ -14,7 +15,7 @@ mod put;
 use crate::cell::RecordKind;
 use crate::parts::Parts;
 use kmem_buf::{Cells, Home};
-use kmem_model::law_step;
+use kmem_model::{Steps, law_step};
 use kmem_text::{NameId, Reply};
 pub use owner::{RecordMeaning, RecordTenant};
 pub use put::{Offer, PutEnd};
@@ -22,8 +23,8 @@ use std::alloc::{AllocError, Global};
 use std::marker::Model;
 
 /// Records in buffers of a cache, found by name or by tag. To contracts it is a heap state, with the homes of its cache and of the stubs
-/// of its tags. After `create` no call takes memory. `get`, `put`, `del` and `link` look at one name and one object; `first` and `next` may
-/// pass all names, and the search for a leftover all objects.
+/// of its tags. After `create` no call takes memory. `get`, `put`, `del` and `link` look at one name and one object, `first` and `next` at no
+/// name but the one that they find, and the search for a leftover at no object.
 #[derive(Drop)]
 pub struct RecordHeap {
     parts: Parts,
@@ -53,6 +54,7 @@ impl RecordHeap {
         buffers: u32,
         workers: u32,
     ) -> Result<RecordHeap, AllocError>
+        requires names { names ≤ 262144 }
         requires buffers { (buffers ≡ length home.cells) × (buffers ≤ 65536) }
         requires workers { (1 ≤ workers) × (workers ≤ 16) }
         ensures heap { IfOk result (λ h. (h.heap ≡
@@ -112,7 +114,7 @@ impl RecordHeap {
     pub fn first(&self) -> Reply
         ensures reply { IsReplyBy self.now.heap (λ m. (at_step m (least_name m 0)).reply) result }
     {
-        self.at(self.parts.least_name(0))
+        self.at(self.parts.least_name(&mut Steps::create()))
     }
 
     /// The least name that is greater, with its value.
@@ -120,7 +122,28 @@ impl RecordHeap {
         requires { name.0 < length self.now.heap.names }
         ensures reply { IsReplyBy self.now.heap (λ m. (at_step m (least_name m (name.0 + 1))).reply) result }
     {
-        self.at(self.parts.least_name(name.0 + 1))
+        self.at(self.parts.name_after(name, &mut Steps::create()))
+    }
+
+    /// The least name that is present, by at most three steps.
+    pub fn least(&self, steps: &mut Steps) -> Option<NameId>
+        requires { steps.old < 2 ^ 62 }
+        ensures least { option_map (λ name. name.0) result ≡ least_below (length self.now.heap.names) (λ name. nat_le 0 name
+            && is_some (address_of self.now.heap name)) }
+        ensures steps { steps.new ≤ steps.old + 3 }
+    {
+        Some(NameId(self.parts.least_name(steps)?))
+    }
+
+    /// The least name above this one that is present, by at most five steps.
+    pub fn after(&self, name: NameId, steps: &mut Steps) -> Option<NameId>
+        requires name { name.0 < length self.now.heap.names }
+        requires steps { steps.old < 2 ^ 62 }
+        ensures least { option_map (λ other. other.0) result ≡ least_below (length self.now.heap.names) (λ other. nat_le (name.0 + 1) other
+            && is_some (address_of self.now.heap other)) }
+        ensures steps { steps.new ≤ steps.old + 5 }
+    {
+        Some(NameId(self.parts.name_after(name, steps)?))
     }
 
     fn at(&self, name: Option<u32>) -> Reply

@@ -1,10 +1,12 @@
 //! Where the records are kept: objects in buffers of a cache, found by address.
 #![tactic(auto)]
 
+mod addresses;
 mod cell;
 mod heap;
 mod hold;
 mod parts;
+mod rack;
 mod shelf;
 
 pub use cell::{RecordCell, RecordKind};

@@ -11,11 +11,12 @@ ghost use Rattle.record_heap.specs.View.{IsHoldAt};
 ghost use Rattle.record_heap.specs.Changes.{value_in, names_in, holds_in, with_object, changed_at, with_tag, valued, fixed_at, linked, unlinked, tagged, made};
 ghost use Rattle.kmem_answers.specs.Words.{said_of};
 
+use crate::addresses::Addresses;
 use crate::cell::{RecordCell, RecordKind};
 use crate::hold::{Hold, Tags, place_of};
 use crate::shelf::Shelf;
 use kmem_buf::{Buf, Cells, Home, Verdict};
-use kmem_model::law_order;
+use kmem_model::{Steps, law_order};
 use kmem_text::{NameId, Tag, Value};
 use std::alloc::{AllocError, Global};
 use std::marker::Model;
@@ -23,7 +24,7 @@ use std::mem::swap;
 
 #[derive(Drop)]
 pub struct Parts {
-    names: Vec<Option<u32>>,
+    names: Addresses,
     tags: Tags,
     shelf: Shelf,
 }
@@ -34,7 +35,7 @@ impl Model for Parts {
     ghost Value = { HeapView };
 
     ghost view = { λ p. record {
-      heap = record { names = p.names.items; tags = p.tags.tags; objects = p.shelf.objects };
+      heap = record { names = p.names; tags = p.tags.tags; objects = p.shelf.objects };
       home = p.shelf.home;
       holds = p.tags.stubs;
     } };
@@ -49,6 +50,7 @@ impl Parts {
         buffers: u32,
         workers: u32,
     ) -> Result<Parts, AllocError>
+        requires names { names ≤ 262144 }
         requires buffers { (buffers ≡ length home.cells) × (buffers ≤ 65536) }
         requires workers { workers ≤ 16 }
         ensures heap { IfOk result (λ p. p.heap ≡
@@ -57,7 +59,7 @@ impl Parts {
         ensures holds { IfOk result (λ p. length p.holds ≡ 8 * workers) }
     {
         Ok(Parts {
-            names: Vec::from_elem(alloc, None, names as usize)?,
+            names: Addresses::create(alloc, names)?,
             tags: Tags::create(alloc, workers)?,
             shelf: Shelf::create(alloc, home, buffers)?,
         })
@@ -69,24 +71,31 @@ impl Parts {
         requires { name.0 < length self.now.heap.names }
         ensures { result ≡ address_of self.now.heap name.0 }
     {
-        self.names[name.0 as usize]
+        self.names.at(name.0)
     }
 
-    /// The least name that is present, from this one on.
-    pub fn least_name(&self, from: u32) -> Option<u32>
-        requires { length self.now.heap.names < 2 ^ 32 }
-        ensures least { result ≡ least_below (length self.now.heap.names) (λ name. nat_le from name
-            && is_some (address_of self.now.heap name)) }
+    /// The least name that is present.
+    pub fn least_name(&self, steps: &mut Steps) -> Option<u32>
+        requires { steps.old < 2 ^ 62 }
+        ensures least { result ≡ least_below (length self.now.heap.names) (λ name. nat_le 0 name && is_some (address_of self.now.heap name)) }
         ensures found { IfSome result (λ name. (name < length self.now.heap.names) × (is_some (address_of self.now.heap name) ≡ true)) }
+        ensures steps { steps.new ≤ steps.old + 3 }
     {
         law_order();
-        let count = self.names.len() as u32;
-        for name in from..count {
-            if self.names[name as usize].is_some() {
-                return Some(name);
-            }
-        }
-        None
+        self.names.least(steps)
+    }
+
+    /// The least name above this one that is present.
+    pub fn name_after(&self, name: NameId, steps: &mut Steps) -> Option<u32>
+        requires name { name.0 < length self.now.heap.names }
+        requires steps { steps.old < 2 ^ 62 }
+        ensures least { result ≡ least_below (length self.now.heap.names) (λ other. nat_le (name.0 + 1) other
+            && is_some (address_of self.now.heap other)) }
+        ensures found { IfSome result (λ other. (other < length self.now.heap.names) × (is_some (address_of self.now.heap other) ≡ true)) }
+        ensures steps { steps.new ≤ steps.old + 5 }
+    {
+        law_order();
+        self.names.after(name.0, steps)
     }
 
     // Objects
@@ -195,7 +204,7 @@ impl Parts {
         requires room { length (names_in self.old.heap b) < 8 }
         ensures { self.new ≡ record self.old { heap = linked self.old.heap name.0 b } }
     {
-        self.names[name.0 as usize] = Some(b);
+        self.names.lead(name.0, b);
         let mut buf = self.shelf.take(b);
         buf.object_mut().add_name(name);
         self.shelf.put(buf);
@@ -207,7 +216,7 @@ impl Parts {
         requires object { is_some (object_at self.old.heap b) ≡ true }
         ensures { self.new ≡ record self.old { heap = unlinked self.old.heap name.0 b } }
     {
-        self.names[name.0 as usize] = None;
+        self.names.clear(name.0);
         let mut buf = self.shelf.take(b);
         buf.object_mut().remove_name(name);
         self.shelf.put(buf);
@@ -222,7 +231,7 @@ impl Parts {
         ensures parts { self.new ≡ record self.old { heap = made self.old.heap name.0 buf.number value } }
     {
         let mut buf = buf;
-        self.names[name.0 as usize] = Some(buf.number());
+        self.names.lead(name.0, buf.number());
         buf.object_mut().set_value(value);
         buf.object_mut().add_name(name);
         self.shelf.put(buf);
@@ -353,13 +362,13 @@ impl Parts {
 }
 
 // Lets each of the names lead to the address.
-fn rename(names: &mut [Option<u32>], moved: &[u32], to: u32)
+fn rename(names: &mut Addresses, moved: &[u32], to: u32)
     requires { (name : ℕ) → list_any (λ other. other == name) moved.now ≡ true → name < length names.old }
     ensures size { length names.new ≡ length names.old }
     ensures names { (name : ℕ) → slice_index_or names.new name None ≡
         (if list_any (λ other. other == name) moved.now then Some to else slice_index_or names.old name None) }
 {
     for name in moved {
-        names[*name as usize] = Some(to);
+        names.lead(*name, to);
     }
 }

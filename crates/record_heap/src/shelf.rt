@@ -5,25 +5,29 @@ ghost use Rattle.kmem_model.specs.CacheOrder.{least_below};
 ghost use Rattle.kmem_model.specs.Heap.{is_leftover};
 
 use crate::cell::{RecordCell, RecordKind};
+use crate::rack::Rack;
 use kmem_buf::{Buf, Cells, Home};
-use kmem_model::law_order;
+use kmem_model::{Steps, law_order};
+use number_set::NumberSet;
 use std::alloc::{AllocError, Global};
 use std::marker::Model;
 
+/// The objects of a heap, each in its buffer. To contracts it is the object at each number, and the homes of their cache.
 #[derive(Drop)]
 pub struct Shelf {
-    home: Home,
-    bufs: Vec<Option<Buf<RecordKind>>>,
+    rack: Rack,
+    // The numbers at which there is an object of no record, so that the least is found without a look at the others.
+    leftovers: NumberSet,
 }
 
 impl Model for Shelf {
-    ghost use Rattle.record_heap.specs.Shelves.{ShelfState, AreShelved, objects_of};
+    ghost use Rattle.record_heap.specs.Shelves.{ShelfState, AreLeftovers};
 
     ghost Value = { ShelfState };
 
-    ghost view = { λ s. record { objects = objects_of s.bufs.items; home = s.home } };
+    ghost view = { λ s. s.rack };
 
-    ghost invariant = { λ s. AreShelved s.home.cells s.bufs.items };
+    ghost invariant = { λ s. AreLeftovers s.rack.objects s.leftovers };
 }
 
 impl Shelf {
@@ -33,11 +37,10 @@ impl Shelf {
         requires few { buffers ≤ 65536 }
         ensures { IfOk result (λ s. s ≡ record { objects = replicate buffers None; home = home }) }
     {
-        let mut bufs = Vec::with_capacity(alloc, buffers as usize)?;
-        for _ in 0..buffers {
-            bufs.push(None)?;
-        }
-        Ok(Shelf { home, bufs })
+        Ok(Shelf {
+            rack: Rack::create(alloc, home, buffers)?,
+            leftovers: NumberSet::create(alloc, 3, buffers.max(1))?,
+        })
     }
 
     /// Whether there is an object at the number.
@@ -45,7 +48,7 @@ impl Shelf {
         requires { b < length self.now.objects }
         ensures { result ≡ is_some (slice_index_or self.now.objects b None) }
     {
-        self.bufs[b as usize].is_some()
+        self.rack.lists(b)
     }
 
     /// The object at the number.
@@ -53,10 +56,7 @@ impl Shelf {
         requires { is_some (slice_index_or self.now.objects b None) ≡ true }
         ensures { slice_index_or self.now.objects b None ≡ Some result.now }
     {
-        match &self.bufs[b as usize] {
-            Some(buf) => buf.object(),
-            None => unreachable!(),
-        }
+        self.rack.look(b)
     }
 
     /// The least number at which there is an object of no record.
@@ -65,23 +65,7 @@ impl Shelf {
         ensures found { IfSome result (λ b. is_leftover (slice_index_or self.now.objects b None) ≡ true) }
     {
         law_order();
-        let count = self.bufs.len() as u32;
-        for b in 0..count {
-            if self.is_leftover(b) {
-                return Some(b);
-            }
-        }
-        None
-    }
-
-    fn is_leftover(&self, b: u32) -> bool
-        requires { b < length self.now.objects }
-        ensures { result ≡ is_leftover (slice_index_or self.now.objects b None) }
-    {
-        match &self.bufs[b as usize] {
-            Some(buf) => buf.object().value().is_none(),
-            None => false,
-        }
+        self.leftovers.least(&mut Steps::create())
     }
 
     /// Puts the buffer at its number, where there is none: no two buffers of one number are out.
@@ -91,10 +75,13 @@ impl Shelf {
         ensures empty { slice_index_or self.old.objects buf.number None ≡ None }
         ensures shelf { self.new ≡ record self.old { objects = slice_set self.old.objects buf.number (Some buf.object) } }
     {
-        let number = buf.number() as usize;
-        match self.bufs[number].take() {
-            None => self.bufs[number] = Some(buf),
-            Some(other) => buf.clash(other),
+        let number = buf.number();
+        let has_record = buf.object().value().is_some();
+        self.rack.put(buf);
+        if has_record {
+            self.leftovers.remove(number);
+        } else {
+            self.leftovers.insert(number);
         }
     }
 
@@ -106,10 +93,8 @@ impl Shelf {
         ensures of { IsBufferOf self.old.home.cells result }
         ensures shelf { self.new ≡ record self.old { objects = slice_set self.old.objects b None } }
     {
-        match self.bufs[b as usize].take() {
-            Some(buf) => buf,
-            None => unreachable!(),
-        }
+        self.leftovers.remove(b);
+        self.rack.take(b)
     }
 
     /// Shows that the buffer of the number is out.

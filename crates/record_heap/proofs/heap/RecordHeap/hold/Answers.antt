@@ -7,7 +7,7 @@ use Rattle.kmem_model.specs.RecordStep.{hold_step}
 use Rattle.record_heap.specs.Objects.{held_more}
 use Rattle.record_heap.proofs.Steps.{of_name, places_changed, none_from}
 use Rattle.record_heap.proofs.Holds.{few_holds, tagged_kept, tagged_stands}
-use Rattle.record_heap.proofs.Sizes.{names_size, tags_size, address_below}
+use Rattle.record_heap.proofs.Sizes.{tags_size}
 use Rattle.record_heap.proofs.heap.RecordHeap.hold.Goals as goal
 
 pub hold-requires-clause-few : goal.hold-requires-clause-few

@@ -10,7 +10,7 @@ use Rattle.record_heap.specs.Changes.{linked, names_in}
 use Rattle.record_heap.proofs.Steps.{of_name, places_changed, none_from}
 use Rattle.record_heap.proofs.Names.{linked_kept, linked_stands, full_stays}
 use Rattle.std.proofs.lemmas.Bool.{eqb-false}
-use Rattle.record_heap.proofs.Sizes.{names_size, tags_size, address_below}
+use Rattle.record_heap.proofs.Sizes.{names_size}
 use Rattle.record_heap.proofs.heap.RecordHeap.link.Goals as goal
 
 pub returns-then-is_full-clause-reply : goal.returns-then-is_full-clause-reply

@@ -9,7 +9,7 @@ use Rattle.kmem_model.specs.RecordStep.{put_step}
 use Rattle.record_heap.specs.Changes.{made, first_object}
 use Rattle.record_heap.proofs.Kept.{one_if}
 use Rattle.record_heap.proofs.Puts.{made_kept, made_stands, empty_free}
-use Rattle.record_heap.proofs.Sizes.{names_size, tags_size, address_below}
+use Rattle.record_heap.proofs.Sizes.{names_size}
 use Rattle.record_heap.proofs.heap.RecordHeap.make.Goals as goal
 
 pub overflow_add-self : goal.overflow_add-self

@@ -13,5 +13,5 @@ returns c =
           let s = stands.paired in
           c.at.ensures m a stands
           ∙ ap (λ (x : Option ℕ). (at_step m x).reply)
-          (c.least_name.ensures.least ∙ least_named m a c.self.inside.parts.heap (subst (λ (v : HeapView). IsPaired m a v.heap) (sym c.self.view_is) s) (c.args.name.0 + 1));
+          (c.name_after.ensures.least ∙ least_named m a c.self.inside.parts.heap (subst (λ (v : HeapView). IsPaired m a v.heap) (sym c.self.view_is) s) (c.args.name.0 + 1));
     }

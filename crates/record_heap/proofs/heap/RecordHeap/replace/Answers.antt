@@ -12,7 +12,7 @@ use Rattle.record_heap.specs.Objects.{with_value}
 use Rattle.record_heap.proofs.Steps.{of_name, value_there, valued_kept, places_changed}
 use Rattle.record_heap.proofs.Holds.{put_stands}
 use Rattle.record_heap.proofs.Puts.{was_put}
-use Rattle.record_heap.proofs.Sizes.{names_size, tags_size, address_below}
+use Rattle.record_heap.proofs.Sizes.{names_size, address_below}
 use Rattle.record_heap.proofs.heap.RecordHeap.replace.Goals as goal
 
 pub value-old-requires : goal.value-old-requires

@@ -11,7 +11,7 @@ use Rattle.kmem_model.proofs.RecordsValid.{read_within}
 use Rattle.record_heap.proofs.Kept.{one_if, leftover_blank}
 use Rattle.record_heap.proofs.Stands.{no_record}
 use Rattle.record_heap.proofs.Puts.{made_kept, made_stands, left_free, fewer_left}
-use Rattle.record_heap.proofs.Sizes.{names_size, tags_size, address_below}
+use Rattle.record_heap.proofs.Sizes.{names_size}
 use Rattle.record_heap.proofs.heap.RecordHeap.reuse.Goals as goal
 
 pub reuse-requires-clause-object : goal.reuse-requires-clause-object

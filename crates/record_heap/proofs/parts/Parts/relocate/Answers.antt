@@ -1,8 +1,6 @@
 use Rattle.std.proofs.Common.{ℕ, ◌≡◌, ◌==◌, true, Option, Some, None, List, [], length, get_or, set, map, cond, sym, ap, ap₂, ◌∙◌, arith}
 use Rattle.std.specs.List.{list_any}
 use Rattle.std.specs.Option.{option_map_or}
-use Rattle.std.specs.Vec.{with_items}
-use Rattle.std.proofs.lemmas.List.{with_items_is}
 use Rattle.kmem_buf.specs.Buffers.{BufState}
 use Rattle.kmem_model.specs.CacheOrder.{is_the}
 use Rattle.kmem_model.specs.Heap.{Object, address_of, object_at}
@@ -27,7 +25,7 @@ rename-requires c = λ name any.
     ∙ (sym (ap (λ (y : Option Object). option_map_or (λ (q : Object). q.names) y []) c.take-old.ensures.object) ∙ ap (λ (v : HeapView). names_in v.heap from) now_is)) in
     let leads : is_the (address_of c.args.self.now.heap name) from ≡ true =
     sym (ap (λ (xs : List ℕ). list_any (λ other. other == name) xs) names ∙ c.requires.names name) ∙ any in
-    omega (arith, read_within c.args.self.now.heap.names name from (is_the_some (address_of c.args.self.now.heap name) from leads), ap (λ (v : HeapView). length v.heap.names) now_is, ap (λ (xs : List (Option ℕ)). length xs) c.deref_mut.ensures.value)
+    omega (arith, read_within c.args.self.now.heap.names name from (is_the_some (address_of c.args.self.now.heap name) from leads), ap (λ (v : HeapView). length v.heap.names) now_is)
 
 pub returns-clause-parts : goal.returns-clause-parts
 returns-clause-parts c =
@@ -41,19 +39,16 @@ returns-clause-parts c =
     c.names.ensures
     ∙ (ap (λ (o : Object). o.names) object
     ∙ (sym (ap (λ (y : Option Object). option_map_or (λ (q : Object). q.names) y []) c.take-old.ensures.object) ∙ ap (λ (v : HeapView). names_in v.heap from) now_is)) in
-    let own = c.deref_mut.ensures.value in
-    let renamed : c.rename.new.names ≡ map (moved_name from to) f.names.items =
-    renamed_is f.names.items c.rename.new.names c.names.result.now from to (c.rename.ensures.size ∙ ap (λ (xs : List (Option ℕ)). length xs) own)
+    let renamed : c.rename.new.names ≡ map (moved_name from to) f.names =
+    renamed_is f.names c.rename.new.names c.names.result.now from to c.rename.ensures.size
     (λ name.
     c.rename.ensures.names name
-    ∙ ap₂ (λ (n : ℕ) (xs : List (Option ℕ)). cond (list_any (λ other. other == name) c.names.result.now) (Some n) (get_or xs name None)) (c.number.ensures ∙ number) own)
+    ∙ ap (λ (n : ℕ). cond (list_any (λ other. other == name) c.names.result.now) (Some n) (get_or f.names name None)) (c.number.ensures ∙ number))
     (λ name.
     ap (λ (xs : List ℕ). list_any (λ other. other == name) xs) names
     ∙ (c.requires.names name ∙ ap (λ (v : HeapView). is_the (address_of v.heap name) from) (sym now_is))) in
-    let items : (with_items f.names c.rename.new.names).items ≡ map (moved_name from to) f.names.items =
-    with_items_is f.names c.rename.new.names (omega (arith, c.rename.ensures.size, ap (λ (xs : List (Option ℕ)). length xs) own, f.names.ok.0)) ∙ renamed in
     let shelf : c.put.new.self ≡ record f.shelf { objects = set (set f.shelf.objects to (get_or f.shelf.objects from None)) from None } =
     moved_in f.shelf c.take-old.new.self c.put.new.self from to c.take-old.result.object c.take-old.ensures.object (ap (λ (v : HeapView). object_at v.heap to) now_is ∙ c.show_empty-to.ensures.empty) c.take-old.ensures.shelf
     (c.put.ensures.shelf
     ∙ ap₂ (λ (o : Object) (n : ℕ). record c.take-old.new.self { objects = set c.take-old.new.self.objects n (Some o) }) (c.swap.ensures.y_after ∙ c.object_mut.ensures.value) number) in
-    ap₂ (λ (xs : List (Option ℕ)) (s : ShelfState). view_of xs f.tags s) items shelf ∙ ap (λ (v : HeapView). record v { heap = relocated v.heap from to }) now_is
+    ap₂ (λ (xs : List (Option ℕ)) (s : ShelfState). view_of xs f.tags s) renamed shelf ∙ ap (λ (v : HeapView). record v { heap = relocated v.heap from to }) now_is

@@ -12,6 +12,6 @@ returns c =
     let f = c.self.inside in
     let n = c.args.name.0 in
     c.make.ensures.parts
-    ∙ (ap₂ (λ (t : ShelfState) (i : ℕ). record (view_of f.names.items f.tags t) { heap = made (view_of f.names.items f.tags t).heap n i c.args.value }) c.take-buf.ensures.shelf c.take-buf.ensures.number
-    ∙ (ap (λ (objects : List (Option Object)). view_of (set f.names.items n (Some c.args.b)) f.tags (record { objects = objects; home = f.shelf.home })) (set-set f.shelf.objects c.args.b None (Some (first_object n c.args.value)))
+    ∙ (ap₂ (λ (t : ShelfState) (i : ℕ). record (view_of f.names f.tags t) { heap = made (view_of f.names f.tags t).heap n i c.args.value }) c.take-buf.ensures.shelf c.take-buf.ensures.number
+    ∙ (ap (λ (objects : List (Option Object)). view_of (set f.names n (Some c.args.b)) f.tags (record { objects = objects; home = f.shelf.home })) (set-set f.shelf.objects c.args.b None (Some (first_object n c.args.value)))
     ∙ ap (λ (v : HeapView). record v { heap = made v.heap n c.args.b c.args.value }) c.self.view_is))

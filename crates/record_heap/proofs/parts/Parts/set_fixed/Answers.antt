@@ -8,6 +8,6 @@ use Rattle.record_heap.proofs.parts.Parts.set_fixed.Goals as goal
 pub returns : goal.returns
 returns c =
     let f = c.self.inside in
-    changed_in f.names.items f.tags f.shelf c.take-buf.new.self c.put.new.self c.args.b c.take-buf.result.number (with_fixed c.args.fixed) c.take-buf.result.object c.object_mut.result.now c.set_fixed.new.self
+    changed_in f.names f.tags f.shelf c.take-buf.new.self c.put.new.self c.args.b c.take-buf.result.number (with_fixed c.args.fixed) c.take-buf.result.object c.object_mut.result.now c.set_fixed.new.self
     c.take-buf.ensures.shelf c.take-buf.ensures.number c.put.ensures.shelf c.take-buf.ensures.object c.object_mut.ensures.value c.set_fixed.ensures
     ∙ ap (λ (v : HeapView). record v { heap = fixed_at v.heap c.args.b c.args.fixed }) c.self.view_is

@@ -1,16 +1,16 @@
-use Rattle.std.proofs.Common.{◌<◌, None, length, get_or, option_map, arith, sym, ap, ◌∙◌}
-use Rattle.std.proofs.lemmas.List.{length-map}
-use Rattle.kmem_buf.specs.Buffers.{BufState}
-use Rattle.kmem_model.specs.Heap.{Object, is_leftover}
+use Rattle.std.proofs.Common.{◌≡◌, true, None, IfSome, length, get_or, ap, ◌∙◌, subst}
+use Rattle.kmem_model.specs.CacheOrder.{least_below}
+use Rattle.kmem_model.specs.Heap.{is_leftover}
 use Rattle.record_heap.specs.Shelves.{ShelfState}
+use Rattle.record_heap.proofs.Present.{least_left, left_there}
 use Rattle.record_heap.proofs.shelf.Shelf.first_leftover.Goals as goal
 
-pub returns-then-is_leftover-clause-least : goal.returns-then-is_leftover-clause-least
-returns-then-is_leftover-clause-least c =
-    let objects = c.args.self.now.objects in
-    let i = c.loop-b.b in
-    let bufs = c.self.inside.bufs in
-    let below : i < length objects = omega (arith, c.loop-b-test.true, c.len-count.ensures, bufs.ok.0, ap (λ (s : ShelfState). length s.objects) c.self.view_is, length-map bufs.items (option_map (λ (x : BufState Object). x.object))) in
-    sym
-    ((c.law_order.ensures.least (length objects) i (λ b. is_leftover (get_or objects b None))).1
-    (record { below = below; passes = sym c.is_leftover.ensures ∙ c.if-is_leftover.true; least = c.loop-b.invariant }))
+pub returns-clause-least : goal.returns-clause-least
+returns-clause-least c =
+    least_left c.law_order.ensures.least c.law_order.ensures.no_least c.self.inside.rack.objects c.self.inside.leftovers c.self.invariant c.least.result c.least.ensures.least
+    ∙ ap (λ (s : ShelfState). least_below (length s.objects) (λ b. is_leftover (get_or s.objects b None))) c.self.view_is
+
+pub returns-clause-found : goal.returns-clause-found
+returns-clause-found c =
+    subst (λ (s : ShelfState). IfSome c.least.result (λ b. is_leftover (get_or s.objects b None) ≡ true)) c.self.view_is
+    (left_there c.self.inside.rack.objects c.self.inside.leftovers c.self.invariant c.least.result c.least.ensures.least)

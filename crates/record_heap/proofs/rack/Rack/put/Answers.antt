@@ -6,8 +6,8 @@ use Rattle.kmem_buf.specs.Homes.{IsBufferOf}
 use Rattle.kmem_model.specs.Heap.{Object}
 use Rattle.record_heap.specs.Shelves.{ShelfState, AreShelved, objects_of}
 use Rattle.record_heap.proofs.Shelved.{shelved_put, objects_set, one_home}
-use Rattle.record_heap.proofs.shelf.Shelf.put.Goals as goal
-use Rattle.record_heap.proofs.shelf.Shelf.put.Goals.{in-Some-1, in-None-1}
+use Rattle.record_heap.proofs.rack.Rack.put.Goals as goal
+use Rattle.record_heap.proofs.rack.Rack.put.Goals.{in-Some-1, in-None-1}
 
 pub invariant_of-self-in-None-2 : goal.invariant_of-self-in-None-2
 invariant_of-self-in-None-2 c =

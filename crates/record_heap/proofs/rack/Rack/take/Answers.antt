@@ -5,7 +5,7 @@ use Rattle.kmem_model.specs.Heap.{Object}
 use Rattle.record_heap.specs.Shelves.{ShelfState, AreShelved, objects_of}
 use Rattle.kmem_model.proofs.RecordsValid.{some_within}
 use Rattle.record_heap.proofs.Shelved.{shelved_take, objects_set}
-use Rattle.record_heap.proofs.shelf.Shelf.take.Goals as goal
+use Rattle.record_heap.proofs.rack.Rack.take.Goals as goal
 
 pub invariant_of-self : goal.invariant_of-self
 invariant_of-self c =

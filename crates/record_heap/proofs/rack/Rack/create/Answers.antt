@@ -3,7 +3,7 @@ use Rattle.kmem_buf.specs.Buffers.{BufState}
 use Rattle.kmem_model.specs.Heap.{Object}
 use Rattle.record_heap.specs.Shelves.{AreShelved, objects_of}
 use Rattle.record_heap.proofs.Shelved.{start, objects_none}
-use Rattle.record_heap.proofs.shelf.Shelf.create.Goals as goal
+use Rattle.record_heap.proofs.rack.Rack.create.Goals as goal
 
 pub invariant_of-result : goal.invariant_of-result
 invariant_of-result c =
