@@ -163,6 +163,7 @@ impl RecordTable {
         requires workers { length scripts.now ≤ 16 }
         requires room { sum scripts.now < 2 ^ 32 }
         requires count { length scripts.now + movers < 2 ^ 32 }
+        requires names { names ≤ 262144 }
         requires buffers { (buffers ≡ length home.cells) × (buffers ≤ 65536) }
         ensures home { IfOk result (λ r. r.0.home.cache ≡ home) }
         ensures sizes { IfOk result (λ r. (r.0.home.names ≡ names) × (r.0.home.workers ≡ length scripts.now)) }

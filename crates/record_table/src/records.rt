@@ -87,6 +87,7 @@ impl Records {
         movers: u32,
     ) -> Result<(Records, Marks, Vec<MarkSeat>, Vec<Share>), AllocError>
         requires passes { workers + movers < 2 ^ 32 }
+        requires names { names ≤ 262144 }
         requires buffers { (buffers ≡ length home.cells) × (buffers ≤ 65536) }
         requires workers { (1 ≤ workers) × (workers ≤ 16) }
         ensures stands { IfOk result (λ r. IsStandingFor r.0 []) }

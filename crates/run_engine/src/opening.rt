@@ -139,6 +139,7 @@ fn open_shared(
     counts: &[u32],
 ) -> Result<Dealt, AllocError>
     requires plan { IsInPlan plan.now }
+    requires names { names ≤ 262144 }
     requires few { All (λ n. n ≤ 100000) counts.now }
     requires all { sum counts.now ≤ 1600000 }
     requires many { length counts.now ≡ plan.now.workers }

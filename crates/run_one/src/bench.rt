@@ -54,6 +54,7 @@ impl Bench {
         requires slabs { (0 < slabs) × (slabs ≤ 4096) }
         requires chunks { (0 < chunks) × (chunks ≤ 64) }
         requires buffers { slabs * chunks ≤ 65536 }
+        requires names { names ≤ 262144 }
         ensures start { IfOk result (λ b. RunsAt (run_start slabs chunks names) b) }
         ensures names { IfOk result (λ b. length b.heap.heap.names ≡ names) }
     {
