@@ -164,7 +164,7 @@ impl Bench {
         let row = row_of_four(alloc)?;
         let home = Home::of(&row.cells, &Vec::new(alloc));
         Ok(Bench {
-            heap: RecordHeap::create(alloc, home, 16, 4, 2)?,
+            heap: RecordHeap::create(alloc, home, 200_000, 4, 2)?,
             row,
             hold: None,
         })
@@ -172,7 +172,7 @@ impl Bench {
 
     // A put with what the cells have.
     fn put(&mut self, name: u32, value: Value) -> Shown
-        requires { name < 16 }
+        requires { name < 200000 }
     {
         if let Some(shown) = self.put_with(name, value, Offer::Nothing) {
             return shown;
@@ -197,7 +197,7 @@ impl Bench {
 
     #[tactic(auto, using(crate::proofs::Benches::still, crate::proofs::Benches::renewed))]
     fn put_with(&mut self, name: u32, value: Value, offer: Offer) -> Option<Shown>
-        requires name { name < 16 }
+        requires name { name < 200000 }
         requires offer { IsReadyOffer self.old.home.cells offer }
     {
         match self.heap.decide_put(NameId(name), value, offer) {
@@ -221,7 +221,7 @@ impl Bench {
     // A deletion, with whether the record ended.
     #[tactic(auto, using(crate::proofs::Benches::still, crate::proofs::Benches::renewed))]
     fn del(&mut self, name: u32) -> (Shown, bool)
-        requires { name < 16 }
+        requires { name < 200000 }
     {
         let (reply, buf) = self.heap.del(NameId(name));
         let ended = buf.is_some();
@@ -230,40 +230,40 @@ impl Bench {
     }
 
     fn get(&self, name: u32) -> Shown
-        requires { name < 16 }
+        requires { name < 200000 }
     {
         show(self.heap.get(NameId(name)))
     }
 
     fn next(&self, name: u32) -> Shown
-        requires { name < 16 }
+        requires { name < 200000 }
     {
         show(self.heap.next(NameId(name)))
     }
 
     fn address(&self, name: u32) -> Option<u32>
-        requires { name < 16 }
+        requires { name < 200000 }
     {
         self.heap.address(NameId(name))
     }
 
     #[tactic(auto, using(crate::proofs::Benches::still, crate::proofs::Benches::renewed))]
     fn link(&mut self, name: u32, other: u32) -> Shown
-        requires { (name < 16) × (other < 16) }
+        requires { (name < 200000) × (other < 200000) }
     {
         show(self.heap.link(NameId(name), NameId(other)))
     }
 
     #[tactic(auto, using(crate::proofs::Benches::still, crate::proofs::Benches::renewed))]
     fn fix(&mut self, name: u32) -> Shown
-        requires { name < 16 }
+        requires { name < 200000 }
     {
         show(self.heap.fix(NameId(name)))
     }
 
     #[tactic(auto, using(crate::proofs::Benches::still, crate::proofs::Benches::renewed))]
     fn loose(&mut self, name: u32) -> Shown
-        requires { name < 16 }
+        requires { name < 200000 }
     {
         show(self.heap.loose(NameId(name)))
     }
@@ -271,7 +271,7 @@ impl Bench {
     // The second worker's tag holds the record of a name.
     #[tactic(auto, using(crate::proofs::Benches::still, crate::proofs::Benches::renewed))]
     fn hold(&mut self, tag: u8, name: u32) -> Shown
-        requires { (tag < 8) × (name < 16) }
+        requires { (tag < 8) × (name < 200000) }
     {
         let (reply, hold) = self.heap.hold(2, Tag::new(tag), NameId(name));
         self.hold = hold;

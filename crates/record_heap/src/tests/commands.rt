@@ -2,7 +2,8 @@
 use super::{Bench, Shown, row_of_four, show};
 use crate::RecordHeap;
 use kmem_buf::Home;
-use kmem_text::{Tag, Value};
+use kmem_model::Steps;
+use kmem_text::{NameId, Value};
 use std::test::Fail;
 use std::thread::{Threads, join};
 
@@ -131,6 +132,23 @@ fn a_leftover_serves(rt: HostRuntime) -> Result<(), Fail> {
         (bench.put(7, x), bench.del(6), bench.put(7, x)),
         (Shown::Full, (Shown::Gone(b'x'), true), Shown::New)
     );
+    Ok(())
+}
+
+// Of 200,000 names the last alone is there: five steps up and down lead to it, and three from the top.
+#[test]
+fn a_far_name(rt: HostRuntime) -> Result<(), Fail> {
+    let mut bench = Bench::create(rt.alloc())?;
+    let mut steps = Steps::create();
+    let x = Value::from_bytes(b"x").ok_or("a value")?;
+    assert_eq!(rt; bench.put(199_999, x), Shown::New);
+    let next = bench.heap.after(NameId(0), &mut steps);
+    assert_eq!(rt; (next, steps.count()), (Some(NameId(199_999)), 5));
+    let first = bench.heap.least(&mut steps);
+    assert_eq!(rt; (first, steps.count()), (Some(NameId(199_999)), 8));
+    assert_eq!(rt; bench.del(199_999), (Shown::Gone(b'x'), true));
+    assert_eq!(rt; bench.heap.after(NameId(0), &mut steps), None);
+    assert_eq!(rt; bench.heap.least(&mut steps), None);
     Ok(())
 }
 
