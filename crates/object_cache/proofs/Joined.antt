@@ -1,9 +1,8 @@
-use Rattle.std.proofs.Common.{ℕ, ◌≡◌, ◌≤◌, Some, length, sym, ap, ◌∙◌, subst}
+use Rattle.std.proofs.Common.{◌≡◌, ◌≤◌, Some, length, sym, ◌∙◌, subst}
 use Rattle.slab_list.specs.Slabs.{ListState}
 use Rattle.kmem_model.specs.declared.cache_entry.CacheEntry.{CacheEntry}
-use Rattle.kmem_model.specs.CacheState.{CacheState}
 use Rattle.kmem_model.specs.CacheEnter.{enter}
-use Rattle.kmem_model.proofs.SettleWhole.{AreSameSizes, enter_sizes, enter_whole}
+use Rattle.kmem_model.proofs.SettleWhole.{enter_sizes, enter_whole}
 use Rattle.object_cache.specs.Cache.{AreJoined, cache_of}
 use Rattle.object_cache.specs.Moves.{MovesState}
 use Rattle.object_cache.specs.declared.scan.Scan.{Scan}

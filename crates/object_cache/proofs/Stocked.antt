@@ -1,5 +1,5 @@
 -- How the source and the slabs stay in step where one slab changes.
-use Rattle.std.proofs.Common.{◌≡◌, ◌≢◌, ℕ, zero, suc, ◌<◌, ◌≤◌, ◌&&◌, ◌||◌, not, nat_lt, Bool, true, false, cond, count_by, List, [], ◌∷◌, map, length, set, replicate, sym, ◌∙◌, ap, ap₂, refl, arith, ⊎_elim, subst}
+use Rattle.std.proofs.Common.{◌≡◌, ◌≢◌, ℕ, zero, suc, ◌<◌, ◌&&◌, ◌||◌, not, nat_lt, Bool, true, false, cond, count_by, List, [], ◌∷◌, map, length, set, replicate, sym, ◌∙◌, ap, ap₂, refl, arith, ⊎_elim, subst}
 use Rattle.std.specs.FinSet as fin
 use Rattle.std.specs.Cmp.{nat_cmp_total, unsigned_tied}
 use Rattle.std.proofs.lemmas.Bool.{cases_Bool, cases_lt, cases_eq, lt-ltb, eq-eqb, ne_eqb}

@@ -1,5 +1,5 @@
 -- Places of slabs in bins: what they are once a slab is taken out of its bin, or put into one.
-use Rattle.std.proofs.Common.{◌≡◌, ◌≢◌, ℕ, ◌+◌, ◌*◌, ◌/◌, ◌%◌, ◌<◌, ◌≤◌, Bool, true, false, eqb, cond, List, length, get_or, set, Option, Some, None, IfSome, ⊎_elim, sym, ◌∙◌, ap, ap₂, arith, subst, refl, length-set}
+use Rattle.std.proofs.Common.{◌≡◌, ◌≢◌, ℕ, ◌+◌, ◌*◌, ◌/◌, ◌%◌, ◌<◌, ◌≤◌, Bool, true, false, eqb, cond, length, get_or, set, Option, Some, None, IfSome, ⊎_elim, sym, ◌∙◌, ap, arith, refl, length-set}
 use Rattle.std.proofs.lemmas.Bool.{cases_eq, eq-eqb, ne_eqb}
 use Rattle.std.proofs.lemmas.Nat.{div-mul-add, mod-mul-add, div-add-mod'}
 use Rattle.std.proofs.lemmas.List.{get_or-set_same, get_or-set_other}

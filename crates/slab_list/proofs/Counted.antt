@@ -1,6 +1,5 @@
 -- Sums over slabs: each buffer of a listed slab is free or out.
-use Rattle.std.proofs.Common.{◌≡◌, ℕ, ◌+◌, ◌-◌, ◌*◌, ◌<◌, ◌≤◌, Bool, true, false, cond, ◌&&◌, nat_lt, ◌==◌, suc, List, [], ◌∷◌, length, get_or, count_by, sum_by, All, ⊎_elim, sym, ◌∙◌, ap, ap₂, arith, refl, zero-mul, add-mul}
-use Rattle.std.proofs.lemmas.Bool.{cases_Bool}
+use Rattle.std.proofs.Common.{◌≡◌, ℕ, ◌+◌, ◌-◌, ◌*◌, ◌<◌, ◌≤◌, Bool, true, false, cond, ◌&&◌, nat_lt, ◌==◌, suc, List, [], ◌∷◌, count_by, sum_by, All, sym, ◌∙◌, ap, ap₂, arith, refl, zero-mul, add-mul}
 use Rattle.std.proofs.lemmas.Bool.Decides.{nat_tests}
 use Rattle.std.proofs.lemmas.List.Sums.{sum_by-cons, sum_by-le-sum_by, count_by-le-length}
 use Rattle.kmem_model.specs.CacheState.{SlabState, is_listed, used, free_buffers}

@@ -1,8 +1,8 @@
 -- An index of slabs as one of them leaves it, or enters it.
-use Rattle.std.proofs.Common.{◌≡◌, ◌≢◌, ℕ, ◌+◌, ◌-◌, ◌*◌, ◌/◌, ◌%◌, ◌<◌, ◌≤◌, Bool, true, false, eqb, cond, not, ◌&&◌, ◌||◌, ◌==◌, is_some, zero, suc, List, [], ◌∷◌, map, length, get_or, set, replicate, count_by, sum_by, Option, Some, None, IfSome, ⊎_elim, sym, ◌∙◌, ap, ap₂, arith, refl, subst, length-set, mul-zero}
+use Rattle.std.proofs.Common.{◌≡◌, ◌≢◌, ℕ, ◌+◌, ◌-◌, ◌*◌, ◌/◌, ◌%◌, ◌<◌, ◌≤◌, Bool, true, false, cond, not, ◌&&◌, ◌||◌, ◌==◌, is_some, zero, suc, List, [], ◌∷◌, map, length, get_or, set, replicate, count_by, sum_by, Option, Some, None, IfSome, ⊎_elim, sym, ◌∙◌, ap, ap₂, arith, refl, subst, length-set, mul-zero}
 use Rattle.std.proofs.lemmas.Bool.{cases_eq, cases_lt, eq-eqb, ne_eqb, eqb-true, or_parts, not-false, both_ways}
 use Rattle.std.proofs.lemmas.List.{get_or-set_same, get_or-set_other, get_or_past, length-replicate, get_or-replicate, ext_get_or, get_or-map, length-map}
-use Rattle.std.proofs.lemmas.List.Sums.{sum_by-set, sum_by-le, sum_by-cons, count_by-le-length, get_or-le-sum_by}
+use Rattle.std.proofs.lemmas.List.Sums.{sum_by-set, sum_by-le, count_by-le-length, get_or-le-sum_by}
 use Rattle.std.proofs.lemmas.List.Folds.{sum_by-replicate}
 use Rattle.number_set.specs.Sets.{has}
 use Rattle.kmem_model.specs.CacheState.{SlabState, slab_at, no_slab, slab_in_source, is_listed, is_dead, used}
@@ -12,12 +12,11 @@ use Rattle.slab_list.specs.Slabs.{is_unused, ListState, IsListWhole, IsSlab}
 use Rattle.slab_list.specs.Bins.{bin_of, has_note, IsIndexOf, IsEmptyIndex, with_place}
 use Rattle.slab_list.specs.declared.index.Index.{Index}
 use Rattle.kmem_model.specs.CacheState.{is_same_standing}
-use Rattle.kmem_model.specs.declared.cache_state.Standing.{Standing}
 use Rattle.kmem_model.specs.declared.cache_state.Standing.TheVariants.{Listed, Dead}
 use Rattle.number_set.specs.Sets.{SetState}
 use Rattle.slab_list.specs.Bins.{bin_at}
 use Rattle.slab_list.specs.declared.line.Line.{Line}
-use Rattle.slab_list.proofs.Binned.{but, told_by, left, entered, length-with_place, levels-with_place}
+use Rattle.slab_list.proofs.Binned.{but, left, entered, length-with_place, levels-with_place}
 
 -- the bins of all slabs but one are those with that one in the source
 pub but_is : (chunks : ℕ) (slabs : List SlabState) (i : ℕ) → i < length slabs → (j : ℕ) →

@@ -1,15 +1,15 @@
 -- Slabs by their places: the order of places is the order in which slabs serve.
-use Rattle.std.proofs.Common.{◌≡◌, ◌≢◌, ℕ, ◌+◌, ◌-◌, ◌*◌, ◌/◌, ◌%◌, ◌<◌, ◌≤◌, Bool, true, false, eqb, cond, ◌&&◌, ◌||◌, not, nat_lt, ◌==◌, List, length, get_or, Option, Some, None, is_some, ⊎_elim, sym, ◌∙◌, ap, ap₂, arith, refl, subst}
+use Rattle.std.proofs.Common.{◌≡◌, ◌≢◌, ℕ, ◌+◌, ◌-◌, ◌*◌, ◌/◌, ◌%◌, ◌<◌, ◌≤◌, Bool, true, false, cond, ◌&&◌, ◌||◌, nat_lt, ◌==◌, List, length, Option, Some, None, ⊎_elim, sym, ◌∙◌, ap, ap₂, arith, refl}
 use Rattle.std.specs.Prelude.{◌↔◌, MatchOption}
-use Rattle.std.proofs.lemmas.Bool.{cases_eq, cases_lt, cases_order, cases_Bool, both_ways, eq-eqb, ne_eqb, eqb-true, lt-ltb, le-ltb, ltb-true, and_parts, and_from, false_from_ne_true}
+use Rattle.std.proofs.lemmas.Bool.{cases_eq, cases_lt, cases_order, both_ways, eq-eqb, ne_eqb, eqb-true, lt-ltb, le-ltb, ltb-true, and_parts, and_from, false_from_ne_true}
 use Rattle.std.proofs.lemmas.List.{get_or_past}
 use Rattle.std.proofs.lemmas.Nat.{div-mul-add, mod-mul-add, div-add-mod'}
 use Rattle.number_set.specs.Places.{IsLeastFrom, IsLastBelow}
-use Rattle.kmem_model.specs.CacheState.{SlabState, slab_at, no_slab, is_listed, is_dead, is_same_standing, used}
-use Rattle.kmem_model.specs.CacheOrder.{least_below, IsLeastBelow, is_the, is_partial, is_marked, is_fuller, comes_before, foremost, first_partial, IsForemost, IsOrder}
+use Rattle.kmem_model.specs.CacheState.{SlabState, slab_at, no_slab, is_listed, is_same_standing, used}
+use Rattle.kmem_model.specs.CacheOrder.{least_below, IsLeastBelow, is_the, is_partial, is_marked, comes_before, first_partial, IsForemost}
 use Rattle.kmem_model.specs.declared.cache_state.Standing.{Standing}
 use Rattle.kmem_model.specs.declared.cache_state.Standing.TheVariants.{Source, Listed, Dead}
-use Rattle.slab_list.specs.Slabs.{ListState, is_unused}
+use Rattle.slab_list.specs.Slabs.{ListState}
 use Rattle.slab_list.specs.Bins.{bin_at, bin_of, stands_at}
 use Rattle.slab_list.proofs.Steps.{listed_within, listed_is}
 

@@ -1,10 +1,10 @@
 -- Whether every partial slab after the first has a mark, by the last partial slab alone.
-use Rattle.std.proofs.Common.{◌≡◌, ℕ, ◌+◌, ◌-◌, ◌*◌, ◌/◌, ◌%◌, ◌<◌, ◌≤◌, Bool, true, false, ◌&&◌, not, List, length, Option, Some, None, ⊎_elim, sym, ◌∙◌, ap, arith, refl}
+use Rattle.std.proofs.Common.{◌≡◌, ℕ, ◌+◌, ◌*◌, ◌/◌, ◌%◌, ◌<◌, ◌≤◌, Bool, true, false, ◌&&◌, not, length, Option, Some, None, ⊎_elim, sym, ◌∙◌, ap, arith, refl}
 use Rattle.std.specs.Prelude.{◌↔◌, is_none}
 use Rattle.std.proofs.lemmas.Bool.{cases_Bool, cases_lt, both_ways, and_parts, and_cases, not-true, not-false, eqb-true, lt-ltb, false_from_ne_true}
 use Rattle.std.proofs.lemmas.Nat.{mod-mul-add}
 use Rattle.number_set.specs.Places.{IsLastBelow}
-use Rattle.kmem_model.specs.CacheState.{SlabState, slab_at, used}
+use Rattle.kmem_model.specs.CacheState.{slab_at, used}
 use Rattle.kmem_model.specs.CacheOrder.{least_below, is_the, is_partial, is_marked, comes_before, first_partial, IsForemost}
 use Rattle.kmem_model.specs.Settle.{is_open_slab, is_rest_marked}
 use Rattle.slab_list.specs.Slabs.{ListState}

@@ -1,13 +1,13 @@
 -- What a scan may ask about: only partial slabs, and where it is mild only those with few buffers out.
-use Rattle.std.proofs.Common.{◌≡◌, ℕ, ◌+◌, ◌-◌, ◌*◌, ◌/◌, ◌%◌, ◌<◌, ◌≤◌, Bool, true, false, ◌&&◌, ◌||◌, not, nat_lt, ◌==◌, List, length, Option, Some, None, is_some, option_map, ⊎_elim, sym, ◌∙◌, ap, arith, refl}
+use Rattle.std.proofs.Common.{◌≡◌, ℕ, ◌+◌, ◌*◌, ◌<◌, ◌≤◌, Bool, true, false, ◌&&◌, ◌||◌, not, nat_lt, ◌==◌, List, length, Option, Some, None, is_some, option_map, ⊎_elim, sym, ◌∙◌, ap, arith, refl}
 use Rattle.std.specs.Prelude.{◌↔◌}
 use Rattle.std.proofs.lemmas.Bool.{cases_Bool, both_ways, and_parts, or_cases, or_right, not-true, eqb-true, eq-eqb, ltb-true, lt-ltb}
 use Rattle.kmem_model.specs.CacheState.{SlabState, slab_at, used}
 use Rattle.kmem_model.specs.CacheOrder.{least_below, is_the, is_partial, is_marked, first_partial, is_reclaimable, least_to_move}
 use Rattle.kmem_model.specs.CacheState.{is_out_on}
 use Rattle.kmem_model.specs.declared.cache_state.Mode.{Mode}
-use Rattle.kmem_model.specs.declared.cache_state.Mode.TheVariants.{Mild, Desperate}
-use Rattle.slab_list.specs.Slabs.{ListState, mode_of}
+use Rattle.kmem_model.specs.declared.cache_state.Mode.TheVariants.{Mild}
+use Rattle.slab_list.specs.Slabs.{mode_of}
 use Rattle.slab_list.proofs.Orders.{place_of, partial_bin}
 
 pub is_some_map : (f : ℕ → ℕ) (o : Option ℕ) → is_some (option_map f o) ≡ is_some o

@@ -1,13 +1,11 @@
 -- All lines of a new list.
-use Rattle.std.proofs.Common.{◌≡◌, ℕ, ◌+◌, ◌*◌, ◌<◌, ◌≤◌, Bool, false, cond, List, [], ◌∷◌, map, length, get_or, take, drop, replicate, count_by, sym, ◌∙◌, ap, refl, arith, subst, mul-zero}
+use Rattle.std.proofs.Common.{◌≡◌, ℕ, ◌+◌, ◌*◌, ◌<◌, ◌≤◌, Bool, false, cond, List, map, length, replicate, count_by, sym, ◌∙◌, ap, refl, arith, subst, mul-zero}
 use Rattle.std.proofs.lemmas.List.{length-map, get_or-map, ext_get_or, length-replicate, get_or-replicate}
 use Rattle.std.proofs.lemmas.List.Folds.{sum_by-replicate}
 use Rattle.kmem_buf.specs.Stubs.{nowhere}
 use Rattle.kmem_buf.specs.Buffers.{CellState}
-use Rattle.kmem_model.specs.CacheState.{SlabState, no_slab, slab_in_source}
-use Rattle.kmem_model.specs.CacheEnter.{unmarked}
-use Rattle.slab_list.specs.declared.line.Line.{Line}
-use Rattle.slab_list.specs.Lines.{row_at, slab_of, slabs_of, IsLine, IsListKept, AreCellsFree, line_unmarked, line_in_source}
+use Rattle.kmem_model.specs.CacheState.{no_slab, slab_in_source}
+use Rattle.slab_list.specs.Lines.{row_at, slab_of, slabs_of, IsLine, IsListKept, AreCellsFree, line_in_source}
 use Rattle.slab_list.proofs.Rows.{length-slabs_of, slab_at-slabs_of, length-row_at, get_or-row_at, row_within}
 
 -- free cells, and lines of slabs in the source

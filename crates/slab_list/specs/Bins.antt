@@ -1,5 +1,5 @@
 -- The bins of slabs, by which a search finds without a look at other slabs which one serves next (this project's own).
-use Rattle.std.specs.Prelude.{ℕ, ◌≡◌, ◌≤◌, ◌+◌, ◌*◌, ◌/◌, ◌%◌, ◌-◌, Bool, false, ◌&&◌, ◌||◌, not, ◌==◌, nat_lt, List, Option, Some, None, length, count_by, sum_by, is_some, slice_set, if◌then◌else◌}
+use Rattle.std.specs.Prelude.{ℕ, ◌≡◌, ◌≤◌, ◌+◌, ◌*◌, ◌/◌, ◌%◌, ◌-◌, Bool, false, ◌||◌, not, ◌==◌, nat_lt, List, Option, Some, None, length, count_by, sum_by, is_some, slice_set, if◌then◌else◌}
 use Rattle.number_set.specs.Sets.{SetState, has}
 use Rattle.kmem_model.specs.CacheState.{SlabState, slab_at, is_listed, is_dead, used}
 use Rattle.kmem_model.specs.CacheOrder.{is_the, is_marked}

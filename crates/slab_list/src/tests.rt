@@ -100,7 +100,7 @@ fn first_partial(list: &SlabList<Counters>) -> Option<u32> {
 
 // The fuller slab serves, then the marked one, and the fuller one again once the stuck buffer is back.
 #[test]
-fn marked_slabs_serve_first(rt: HostRuntime) -> Result<(), Fail> {
+fn bins_by_mark_and_use(rt: HostRuntime) -> Result<(), Fail> {
     let mut list = listed(rt.alloc(), 3, 4, &[4, 5, 6, 8, 9, 10])?;
     let buf = take(&mut list, 0).ok_or("taken")?;
     assert_eq!(rt;

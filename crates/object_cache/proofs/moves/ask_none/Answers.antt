@@ -1,4 +1,4 @@
-use Rattle.std.proofs.Common.{◌≡◌, ◌≤◌, ◌<◌, ◌||◌, ℕ, Bool, List, false, true, length, get_or, set, count_by, arith, sym, ap, ◌∙◌, subst, length-set}
+use Rattle.std.proofs.Common.{◌≡◌, ◌<◌, ◌||◌, Bool, List, false, true, length, get_or, set, count_by, arith, sym, ap, ◌∙◌, subst, length-set}
 use Rattle.std.specs.List.{list_any}
 use Rattle.kmem_model.specs.CacheOrder.{is_of_move}
 use Rattle.object_cache.specs.Moves.{is_left_out_of}

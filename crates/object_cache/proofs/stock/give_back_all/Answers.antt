@@ -1,8 +1,7 @@
-use Rattle.std.proofs.Common.{◌≡◌, ◌<◌, ℕ, List, Some, None, length, count_by, set, sym, ap, ap₂, ◌∙◌, subst}
+use Rattle.std.proofs.Common.{◌<◌, List, length, count_by, sym, ap, ap₂, ◌∙◌, subst}
 use Rattle.atomic_table.specs.Seated.{TableId}
 use Rattle.kmem_model.specs.CacheState.{SlabState, slab_at, is_dead}
 use Rattle.kmem_model.specs.CacheOrder.{IsLeastBelow}
-use Rattle.kmem_model.specs.CacheEnter.{slab_given_back}
 use Rattle.slab_list.specs.Slabs.{ListState}
 use Rattle.object_cache.proofs.Stocked.{WentBack, went_more, back_all, fewer_dead}
 use Rattle.object_cache.proofs.stock.give_back_all.Goals as goal

@@ -1,7 +1,6 @@
-use Rattle.std.proofs.Common.{rules, Some, length, sym, ap, refl}
+use Rattle.std.proofs.Common.{rules, length, ap, refl}
 use Rattle.slab_list.specs.Slabs.{ListState}
 use Rattle.kmem_model.specs.declared.cache_entry.CacheEntry.TheVariants.{Free}
-use Rattle.object_cache.specs.Cache.{cache_of}
 use Rattle.object_cache.proofs.Joined.{joined}
 use Rattle.object_cache.proofs.cache.ObjectCache.free.Goals as goal
 

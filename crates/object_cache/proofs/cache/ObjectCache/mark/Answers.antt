@@ -1,4 +1,4 @@
-use Rattle.std.proofs.Common.{rules, ◌≡◌, ◌≤◌, Some, length, sym, ap, ◌∙◌, refl, subst}
+use Rattle.std.proofs.Common.{rules, ◌≡◌, ◌≤◌, length, sym, ap, ◌∙◌, subst}
 use Rattle.slab_list.specs.Slabs.{ListState}
 use Rattle.kmem_model.specs.CacheEnter.{with_answer}
 use Rattle.kmem_model.specs.SettleWhole.{IsWhole}

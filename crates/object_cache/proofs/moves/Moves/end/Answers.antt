@@ -1,4 +1,4 @@
-use Rattle.std.proofs.Common.{◌<◌, None, List, length, set, arith, ap, ap₂, ◌∙◌}
+use Rattle.std.proofs.Common.{◌<◌, None, List, length, set, arith, ap, ◌∙◌}
 use Rattle.std.proofs.Math.Seq.{map-set_same}
 use Rattle.std.proofs.lemmas.Option.{slice_get_within}
 use Rattle.std.proofs.lemmas.List.{length-map}

@@ -1,5 +1,5 @@
-use Rattle.std.proofs.Common.{◌≡◌, ◌≤◌, ◌<◌, ◌-◌, ◌+◌, ◌==◌, ◌&&◌, cond, is_some, set, arith, sym, ap, ap₂, ◌∙◌, refl}
-use Rattle.kmem_model.specs.CacheState.{slab_at, is_same_standing}
+use Rattle.std.proofs.Common.{◌+◌, is_some, set, arith, ap, ◌∙◌, refl}
+use Rattle.kmem_model.specs.CacheState.{slab_at}
 use Rattle.slab_list.specs.Bins.{bin_at}
 use Rattle.slab_list.proofs.Indexed.{Tells, enters, out_fits, few_out, set_within}
 use Rattle.slab_list.proofs.index.Index.enter.Goals as goal

@@ -1,8 +1,7 @@
-use Rattle.std.proofs.Common.{◌≡◌, ◌≤◌, ◌<◌, ◌-◌, ◌+◌, ◌==◌, ◌&&◌, cond, is_some, arith, sym, ap, ap₂, ◌∙◌, refl}
-use Rattle.kmem_model.specs.CacheState.{slab_at, is_same_standing}
-use Rattle.kmem_model.specs.declared.cache_state.Standing.TheVariants.{Listed, Dead}
+use Rattle.std.proofs.Common.{◌-◌, is_some, arith, ap, ◌∙◌, refl}
+use Rattle.kmem_model.specs.CacheState.{slab_at}
 use Rattle.slab_list.specs.Bins.{bin_at}
-use Rattle.slab_list.proofs.Indexed.{Tells, listed_part, unused_part, out_part, leaves}
+use Rattle.slab_list.proofs.Indexed.{Tells, listed_part, unused_part, leaves}
 use Rattle.slab_list.proofs.index.Index.leave.Goals as goal
 
 pub overflow_sub-self : goal.overflow_sub-self

@@ -1,5 +1,4 @@
-use Rattle.std.proofs.Common.{◌≡◌, ◌≤◌, List, replicate, sym, subst}
-use Rattle.kmem_model.specs.CacheState.{SlabState, slab_in_source}
+use Rattle.std.proofs.Common.{sym, subst}
 use Rattle.slab_list.specs.Bins.{IsIndexOf}
 use Rattle.slab_list.proofs.Indexed.{index_empty}
 use Rattle.slab_list.proofs.list.SlabList.create.Goals as goal

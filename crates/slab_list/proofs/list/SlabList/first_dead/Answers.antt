@@ -1,4 +1,4 @@
-use Rattle.std.proofs.Common.{◌≡◌, ℕ, length}
+use Rattle.std.proofs.Common.{length}
 use Rattle.kmem_model.specs.CacheState.{slab_at, is_dead, used}
 use Rattle.kmem_model.specs.CacheOrder.{is_the, is_marked}
 use Rattle.slab_list.specs.Bins.{bin_of}

@@ -1,4 +1,4 @@
-use Rattle.std.proofs.Common.{◌≡◌, ◌≢◌, ◌<◌, ◌*◌, ◌+◌, ◌-◌, ◌/◌, ℕ, length, false, arith, sym, ◌∙◌, subst}
+use Rattle.std.proofs.Common.{◌≡◌, ◌<◌, ◌*◌, ◌+◌, ◌-◌, ℕ, length, false, arith, sym, subst}
 use Rattle.std.specs.Prelude.{MatchOption}
 use Rattle.kmem_model.specs.CacheState.{slab_at}
 use Rattle.kmem_model.specs.CacheOrder.{is_the, IsLeastBelow}

@@ -1,4 +1,4 @@
-use Rattle.std.proofs.Common.{◌≡◌, ◌+◌, ◌*◌, ℕ, length, Some, arith, sym, ap, ◌∙◌, option_map}
+use Rattle.std.proofs.Common.{◌≡◌, ◌*◌, length, Some, arith, sym, ap, ◌∙◌, option_map}
 use Rattle.kmem_model.specs.CacheState.{slab_at, used}
 use Rattle.kmem_model.specs.CacheOrder.{is_the, is_marked}
 use Rattle.slab_list.specs.Slabs.{is_unused}

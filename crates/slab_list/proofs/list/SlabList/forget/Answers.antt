@@ -1,5 +1,4 @@
-use Rattle.std.proofs.Common.{◌≡◌, ◌≤◌, ℕ, map, arith, ap, ap₂, ◌∙◌}
-use Rattle.kmem_model.specs.CacheEnter.{unmarked}
+use Rattle.std.proofs.Common.{arith, ap, ap₂, ◌∙◌}
 use Rattle.slab_list.proofs.Indexed.{forget_all}
 use Rattle.slab_list.proofs.list.SlabList.forget.Goals as goal
 

@@ -1,5 +1,5 @@
-use Rattle.std.proofs.Common.{◌≡◌, ◌+◌, ◌*◌, ℕ, sum_by, count_by, arith, ap}
-use Rattle.kmem_model.specs.CacheState.{used, is_listed}
+use Rattle.std.proofs.Common.{◌*◌, sum_by, count_by, arith, ap}
+use Rattle.kmem_model.specs.CacheState.{is_listed}
 use Rattle.slab_list.proofs.Counted.{count_free, free_listed}
 use Rattle.slab_list.proofs.list.SlabList.free_count.Goals as goal
 

@@ -1,6 +1,4 @@
-use Rattle.std.proofs.Common.{◌≡◌, ◌≤◌, ◌+◌, ◌-◌, ◌*◌, ℕ, sum_by, count_by, arith, ap, add-mul}
-use Rattle.kmem_model.specs.CacheState.{used, is_listed}
-use Rattle.slab_list.specs.Slabs.{is_unused}
+use Rattle.std.proofs.Common.{sum_by, arith, ap}
 use Rattle.slab_list.proofs.Counted.{free_left, free_partial, unused_few}
 use Rattle.slab_list.proofs.list.SlabList.free_on_partial.Goals as goal
 

@@ -1,4 +1,4 @@
-use Rattle.std.proofs.Common.{◌≡◌, ℕ, not, length, arith, sym, ap, ◌∙◌}
+use Rattle.std.proofs.Common.{not, length, arith, sym, ap, ◌∙◌}
 use Rattle.kmem_model.specs.CacheState.{slab_at}
 use Rattle.kmem_model.specs.CacheOrder.{is_partial, comes_before}
 use Rattle.slab_list.proofs.Choices.{slab_size}

@@ -1,8 +1,8 @@
-use Rattle.std.proofs.Common.{◌≡◌, ◌<◌, ◌≤◌, ◌*◌, ◌%◌, ℕ, Bool, List, Option, Some, None, true, false, not, length, is_some, slice_index_or, arith, sym, ap, ◌∙◌, subst}
+use Rattle.std.proofs.Common.{◌≡◌, ◌<◌, ◌%◌, ℕ, Bool, Some, None, true, false, length, is_some, slice_index_or, arith, sym, ap, ◌∙◌, subst}
 use Rattle.kmem_model.specs.CacheState.{slab_at}
 use Rattle.kmem_model.specs.CacheOrder.{is_partial, comes_before, least_to_move}
 use Rattle.std.proofs.lemmas.Bool.{false_from_ne_true}
-use Rattle.slab_list.specs.Slabs.{ListState, IsListWhole, mode_of}
+use Rattle.slab_list.specs.Slabs.{mode_of}
 use Rattle.slab_list.proofs.Choices.{slab_size}
 use Rattle.slab_list.proofs.Orders.{Left, left_next, left_past, left_this, place_low, place_within, place_partial, place_own, low_use, parts}
 use Rattle.slab_list.proofs.Scanned.{can_reclaim, reclaim_partial, scan_ends, is_some_map}

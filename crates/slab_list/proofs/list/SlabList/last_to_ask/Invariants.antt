@@ -1,4 +1,4 @@
-use Rattle.std.proofs.Common.{◌≡◌, ◌+◌, ℕ, false, Option, Some, None, is_some, slice_index_or}
+use Rattle.std.proofs.Common.{◌+◌, ℕ, false, Option, Some, None, is_some, slice_index_or}
 use Rattle.kmem_model.specs.CacheOrder.{least_to_move}
 use Rattle.slab_list.specs.Slabs.{mode_of}
 use Rattle.slab_list.proofs.Orders.{Left}

@@ -1,4 +1,4 @@
-use Rattle.std.proofs.Common.{◌<◌, length, arith, sym, ap, ◌∙◌, refl}
+use Rattle.std.proofs.Common.{◌<◌, length, arith, ap, ◌∙◌, refl}
 use Rattle.kmem_model.specs.CacheEnter.{unmarked}
 use Rattle.slab_list.proofs.Rows.{length-slabs_of, kept_line}
 use Rattle.slab_list.proofs.Steps.{line_step, unmark_line}
