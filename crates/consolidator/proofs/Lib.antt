@@ -1,6 +1,8 @@
 pub mod Within
 pub mod Owning
 pub mod Turns
+pub mod Followed
+pub mod OfRecords
 pub mod Sums
 pub mod Working
 pub mod Counts

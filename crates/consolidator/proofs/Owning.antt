@@ -1,8 +1,9 @@
 -- What a settle works on, by how the objects stand with their owner.
-use Rattle.std.proofs.Common.{◌≡◌, ℕ, ◌+◌, ◌*◌, ◌/◌, ◌%◌, ◌<◌, ◌&&◌, not, ◌++◌, Bool, true, false, List, [], ◌∷◌, length, map, get_or, set, Some, ⊎_elim, inl, inr, sym, ◌∙◌, ap, ap₂, refl, arith}
+use Rattle.std.proofs.Common.{◌≡◌, ℕ, ◌+◌, ◌*◌, ◌/◌, ◌%◌, ◌<◌, ◌&&◌, not, ◌++◌, Bool, true, false, List, [], ◌∷◌, length, map, set, slice_get, Some, ⊎_elim, inl, inr, sym, ◌∙◌, ap, ap₂, refl, arith}
 use Rattle.std.proofs.lemmas.Bool.{and_parts}
 use Rattle.std.proofs.lemmas.List.{map-set, length-map}
 use Rattle.std.proofs.Math.Nat.{mul_comm}
+use Rattle.std.proofs.lemmas.Option.{slice_get-get_or}
 use Rattle.std.proofs.lemmas.Nat.{div-mul-add, mod-mul-add, mul-add-lt}
 use Rattle.kmem_buf.specs.declared.owner.Stand.{Stand}
 use Rattle.kmem_buf.specs.declared.owner.Stand.TheVariants.{Movable, Spare, Fixed, Busy, Unknown}
@@ -139,14 +140,10 @@ begun_free s t j from to whole e =
     }
 
 -- so the owner has no object in it
-pub record IsEmptyPlace (stands : List Stand) (b : ℕ) : Type 0 where
-  pub stand : stand_at stands b ≡ Unknown
-  pub within : b < length stands
-
-pub begun_empty : (s t : CacheState) (stands : List Stand) (j from to : ℕ) → IsWholeStage (stage_with s stands) → enter s (Begin j from to) ≡ Some t → IsEmptyPlace stands to
+pub begun_empty : (s t : CacheState) (stands : List Stand) (j from to : ℕ) → IsWholeStage (stage_with s stands) → enter s (Begin j from to) ≡ Some t → slice_get stands to ≡ Some Unknown
 begun_empty s t stands j from to whole e =
     let owned = stage_owned s stands whole in let at = begun_free s t j from to whole.cache e in
-    record { stand = none_is (stand_at stands to) (owned.places to ∙ at.free); within = omega (arith, at.within, owned.size) }
+    slice_get-get_or stands to Unknown (omega (arith, at.within, owned.size)) ∙ ap Some (none_is (stand_at stands to) (owned.places to ∙ at.free))
 
 -- Lists of moves
 

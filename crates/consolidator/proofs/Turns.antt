@@ -1,5 +1,5 @@
 -- One move more in a scan, and one scan more in a settle.
-use Rattle.std.proofs.Common.{◌≡◌, ℕ, Bool, true, false, ◌||◌, ◌&&◌, not, ◌++◌, List, [], ◌∷◌, Some, map, sym, ◌∙◌, ap, ap₂, refl, subst}
+use Rattle.std.proofs.Common.{◌≡◌, ℕ, Bool, true, false, ◌||◌, ◌&&◌, not, ◌++◌, List, [], ◌∷◌, slice_get, Some, map, sym, ◌∙◌, ap, ap₂, refl, subst}
 use Rattle.std.specs.List.{list_any}
 use Rattle.std.specs.Bool.{then_some}
 use Rattle.std.specs.Option.{IsSome}
@@ -65,7 +65,7 @@ module _ {T : Type 0} where
   pub on_scan_more : (old now : CacheState) (held now_held new_held : Holdings T) (tally now_tally : Tally) (gained : Bool) (on : IsOnScan old now held now_held tally now_tally gained) (from to : ℕ) (ended : CacheState) (said : Said) →
       said_at (stage_with now now_held.stands) from ≡ said →
       IsMoveOn (record { stage = stage_with now now_held.stands; moves = on.moves }) (course_moved (record { stage = stage_with now now_held.stands; moves = on.moves }) from to ended) →
-      stand_at now_held.stands to ≡ Unknown →
+      slice_get now_held.stands to ≡ Some Unknown →
       new_held ≡ holdings_after now_held from to →
       IsOnScan old ended held new_held tally (counted now_tally said) (gained || gains said)
   on_scan_more old now held now_held new_held tally now_tally gained on from to ended said is next empty after =

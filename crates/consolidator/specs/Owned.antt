@@ -1,5 +1,5 @@
 -- A settle of a cache and of an owner of the objects in its buffers: what the owner's answers make of it (this project's own).
-use Rattle.std.specs.Prelude.{ℕ, ◌≡◌, ◌+◌, ◌*◌, ◌≤◌, ◌⊎◌, Bool, true, false, List, [], ◌∷◌, Option, Some, All, length, map, count_by}
+use Rattle.std.specs.Prelude.{ℕ, ◌≡◌, ◌+◌, ◌*◌, ◌≤◌, ◌⊎◌, Bool, true, false, List, [], ◌∷◌, Option, Some, All, slice_get, length, map, count_by}
 use Rattle.std.specs.List.{list_any}
 use Rattle.kmem_buf.specs.declared.owner.Stand.{Stand}
 use Rattle.kmem_buf.specs.declared.owner.Stand.TheVariants.{Movable, Spare, Fixed, Busy, Unknown}
@@ -62,11 +62,11 @@ abbrev pub holdings_left : {T : Type 0} → Holdings T → List EndedMove → Ho
 holdings_left held [] = held
 holdings_left held (move ∷ moves) = holdings_left (holdings_after held move.from move.to) moves
 
--- each of these moves ended by the answer about the object in the old buffer as it stood then, and nothing stood in the new one
+-- each of these moves ended by the answer about the object in the old buffer as it stood then, and the new buffer had none
 abbrev pub AreAnswered : {T : Type 0} → Holdings T → List EndedMove → Type 0
 AreAnswered held [] = Unit {0}
 AreAnswered held (move ∷ moves) =
-    (move.said ≡ said_about (stand_at held.stands move.from)) × (stand_at held.stands move.to ≡ Unknown)
+    (move.said ≡ said_about (stand_at held.stands move.from)) × (slice_get held.stands move.to ≡ Some Unknown)
     × AreAnswered (holdings_after held move.from move.to) moves
 
 -- What a settle leaves

@@ -4,6 +4,7 @@
 mod carrying;
 mod driving;
 mod laws;
+mod records;
 mod scanning;
 mod scans;
 mod tally;
@@ -11,6 +12,7 @@ mod tally;
 pub use carrying::carry;
 pub use driving::{MoverPlan, drive};
 pub use laws::{law_notes, law_tally};
+pub use records::settle_records;
 pub use scanning::scan;
 pub use scans::settle;
 pub use tally::{add, no_moves};

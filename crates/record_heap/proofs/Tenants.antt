@@ -86,7 +86,7 @@ unheld_tags h b o tied is free = none_from h.tags 0 b (λ i e. absurd (omega (ar
 pub tenant_is : (h : HeapState) (b : ℕ) → b < length h.objects → get_or (tenants_in h) b None ≡ tenant_at h b
 tenant_is h b below = get_or-map-range_with_len (tenant_at h) 0 (length h.objects) b b None below (omega arith)
 
-many : (h : HeapState) → length (tenants_in h) ≡ length h.objects
+pub many : (h : HeapState) → length (tenants_in h) ≡ length h.objects
 many h = length-map-range_with_len (tenant_at h) 0 (length h.objects)
 
 -- a list with the tenant of each buffer is the list of all

@@ -1,6 +1,5 @@
 use Rattle.std.proofs.Common.{◌≡◌, ◌<◌, ◌||◌, ℕ, Bool, true, [], length, slice_get, Some, ap, ap₂, sym, ◌∙◌, refl, subst, Err}
 use Rattle.std.proofs.lemmas.Bool.{false≢true}
-use Rattle.std.proofs.lemmas.Option.{slice_get-get_or}
 use Rattle.std.specs.Bool.{then_some}
 use Rattle.std.specs.Option.{IsSome}
 use Rattle.kmem_buf.specs.Answers.{verdict_of, IsAnswerTo}
@@ -50,7 +49,7 @@ answer-answer-requires-clause-empty g c =
     let stands = g.H.Owner.stands c.moves.owner in let to = c.in-Ok.job.move.to in
     let empty = begun_empty c.moves.cache.state c.begin.new.self.state stands c.in-Ok.job.move.no c.in-Ok.job.move.from to c.moves.invariant.on.whole c.in-Ok.ensures.entry in
     let to_is = same_to c.part-pending.result.1 c.in-Some.kept c.in-Ok.job c.part-pending.ensures.1 c.in-Some.ensures.kept.0 c.in-Ok.ensures.job.to in
-    subst (λ b. slice_get stands b ≡ Some Unknown) (sym to_is) (slice_get-get_or stands to Unknown empty.within ∙ ap Some empty.stand)
+    subst (λ b. slice_get stands b ≡ Some Unknown) (sym to_is) empty
 
 from_is : (g : Over) (c : goal.After-end g) → c.from.result ≡ c.in-Ok.job.move.from
 from_is g c = same_from c.part-pending.result.0 c.in-Some.kept c.in-Ok.job c.from.result c.from.ensures c.part-pending.ensures.0 c.in-Some.ensures.kept.0
@@ -118,7 +117,7 @@ moves-preserved g c =
           subst (λ (b : Bool). IsOnScan old ended was left tally c.count.new.tally b) (gained_is g c)
           (subst (λ (t : Tally). IsOnScan old ended was left tally t (c.moves.gained || gains (said g c))) (tally_is g c)
           (on_scan_more old c.moves.cache.state was held left tally c.moves.tally c.moves.gained c.moves.invariant.on from to ended (said g c) refl (made g c)
-          (begun_empty c.moves.cache.state c.begin.new.self.state held.stands c.in-Ok.job.move.no from to c.moves.invariant.on.whole c.in-Ok.ensures.entry).stand (left_is g c)));
+          (begun_empty c.moves.cache.state c.begin.new.self.state held.stands c.in-Ok.job.move.no from to c.moves.invariant.on.whole c.in-Ok.ensures.entry) (left_is g c)));
     }
 
 -- The end
