@@ -1,7 +1,7 @@
 //! A settle of records in the buffers of a cache.
 ghost use Rattle.std.specs.Prelude.{◌<◌, IfOk};
 
-use crate::settle;
+use crate::settle_records;
 use kmem_model::law_one_step;
 use kmem_text::{NameId, Value};
 use object_cache::{Job, ObjectCache, Tally};
@@ -71,7 +71,7 @@ impl Bench {
             mut cache,
             mut heap,
         } = self;
-        let tally = settle(&mut cache, &mut heap);
+        let tally = settle_records(&mut cache, &mut heap);
         (tally, cache.slab_count())
     }
 

@@ -10,7 +10,7 @@ ghost use Rattle.run_end.specs.Ends.{AreAllFree, AreEndsDue, IsOnFewest, IsWound
 
 use crate::leftovers::free_leftovers;
 use crate::meeting::meet_all;
-use consolidator::settle;
+use consolidator::settle_records;
 use kmem_model::{
     law_answers, law_counts, law_fewest, law_just_these, law_one_settle, law_room, law_stage,
 };
@@ -51,7 +51,7 @@ pub fn wind_up(cache: &mut ObjectCache<RecordKind>, heap: &mut RecordHeap) -> Ta
     cache.law_whole();
     meet_all(cache, heap);
     free_leftovers(cache, heap);
-    let tally = settle(cache, heap);
+    let tally = settle_records(cache, heap);
     cache.law_whole();
     tally
 }

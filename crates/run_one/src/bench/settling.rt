@@ -9,7 +9,7 @@ ghost use Rattle.kmem_model.specs.Report.{report_text};
 ghost use Rattle.run_one.specs.Bench.{Stands, StandsAt, RunsAt, FreesOne};
 
 use super::Bench;
-use consolidator::{add, law_tally, no_moves, settle};
+use consolidator::{add, law_tally, no_moves, settle_records};
 use kmem_io::{Failed, Sink};
 use kmem_model::{law_one_settle, law_room, law_stage};
 use kmem_report::write_report;
@@ -25,7 +25,7 @@ impl Bench {
         law_stage();
         law_one_settle();
         law_tally();
-        let tally = settle(&mut self.cache, &mut self.heap);
+        let tally = settle_records(&mut self.cache, &mut self.heap);
         self.cache.law_whole();
         add(&mut self.settled, &tally);
     }

@@ -26,7 +26,7 @@ free_leftovers-requires-clause-stand c =
     )
 
 -- what is left once the leftovers are gone, where the heap stood for this map at these addresses
-freed_of : (c : goal.After-settle-arg-2-1) (m : RecordMap) (addresses : List ℕ) → StandsFor m addresses c.args.heap.now.heap →
+freed_of : (c : goal.After-settle_records-arg-2-1) (m : RecordMap) (addresses : List ℕ) → StandsFor m addresses c.args.heap.now.heap →
     HasFreed (record { map = m; cache = c.args.cache.now.state; addresses = addresses }) c.args.cache.now c.args.heap.now c.free_leftovers.new.cache c.free_leftovers.new.heap
 freed_of c m addresses stands =
     let cache = c.args.cache.now in
@@ -37,16 +37,16 @@ freed_of c m addresses stands =
     (c.free_leftovers.ensures.freed s (stand_same s cache c.meet_all.new.cache heap c.meet_all.new.heap c.meet_all.ensures.cache c.meet_all.ensures.heap
     (together m addresses cache heap c.law_whole.ensures.whole c.requires.calm stands buffers)))
 
-stood : (c : goal.After-settle-arg-2-1) → (s : OneState) × StandTogether s c.free_leftovers.new.cache c.free_leftovers.new.heap
+stood : (c : goal.After-settle_records-arg-2-1) → (s : OneState) × StandTogether s c.free_leftovers.new.cache c.free_leftovers.new.heap
 stood c =
     let s : OneState = record { map = c.requires.stand.0; cache = c.args.cache.now.state; addresses = c.requires.stand.1 } in
     (without_leftovers (buffers_of s.cache) s, (freed_of c c.requires.stand.0 c.requires.stand.1 c.requires.stand.2).stands)
 
-pub settle-tally-requires-clause-calm : goal.settle-tally-requires-clause-calm
-settle-tally-requires-clause-calm c = let at = stood c in stand_calm at.0 c.free_leftovers.new.cache c.free_leftovers.new.heap at.1
+pub settle_records-tally-requires-clause-calm : goal.settle_records-tally-requires-clause-calm
+settle_records-tally-requires-clause-calm c = let at = stood c in stand_calm at.0 c.free_leftovers.new.cache c.free_leftovers.new.heap at.1
 
-pub settle-tally-requires-clause-buffers : goal.settle-tally-requires-clause-buffers
-settle-tally-requires-clause-buffers c = let at = stood c in stand_buffers at.0 c.free_leftovers.new.cache c.free_leftovers.new.heap at.1
+pub settle_records-tally-requires-clause-buffers : goal.settle_records-tally-requires-clause-buffers
+settle_records-tally-requires-clause-buffers c = let at = stood c in stand_buffers at.0 c.free_leftovers.new.cache c.free_leftovers.new.heap at.1
 
 pub returns-clause-buffers : goal.returns-clause-buffers
 returns-clause-buffers c = c.law_just_these.ensures c.args.cache.now.state c.args.heap.now.heap.objects c.law_whole.ensures.whole c.requires.size c.meet_all.ensures.out c.requires.count
@@ -60,8 +60,8 @@ returns-clause-wound_up c =
     let freed : (s : OneState) → StandTogether s cache heap → HasFreed s cache heap between heap_between = λ s at.
     freed_same s cache c.meet_all.new.cache between heap c.meet_all.new.heap heap_between c.meet_all.ensures.cache c.meet_all.ensures.heap
     (c.free_leftovers.ensures.freed s (stand_same s cache c.meet_all.new.cache heap c.meet_all.new.heap c.meet_all.ensures.cache c.meet_all.ensures.heap at)) in
-    let does = c.settle-tally.ensures.settles in
-    let course : Course = record { stage = stage_in c.settle-tally.new.cache.state c.settle-tally.new.heap.heap.objects; moves = does.moves } in
+    let does = c.settle_records-tally.ensures.settles in
+    let course : Course = record { stage = stage_in c.settle_records-tally.new.cache.state c.settle_records-tally.new.heap.heap.objects; moves = does.moves } in
     record {
       between = between;
       heap_between = heap_between;
@@ -72,12 +72,12 @@ returns-clause-wound_up c =
           let run : OneRun = record { state = without_leftovers (buffers_of s.cache) s; moves = [] } in
           let stage : stage_in between.state heap_between.heap.objects ≡ stage_of run.state = ap (λ (t : CacheState). stage_in t heap_between.heap.objects) at.state ∙ c.law_one_settle.ensures.stage run.state heap_between.heap at.stands in
           let after =
-          c.law_one_settle.ensures.settled run heap_between.heap c.settle-tally.new.heap.heap course at.stands
+          c.law_one_settle.ensures.settled run heap_between.heap c.settle_records-tally.new.heap.heap course at.stands
           (subst (λ (t : Stage). settled t ≡ Some course) stage does.settle)
-          (c.law_stage.ensures.whole c.settle-tally.new.cache.state c.settle-tally.new.heap.heap c.law_whole-2.ensures.whole c.settle-tally.ensures.calm c.settle-tally.ensures.buffers)
+          (c.law_stage.ensures.whole c.settle_records-tally.new.cache.state c.settle_records-tally.new.heap.heap c.law_whole-2.ensures.whole c.settle_records-tally.ensures.calm c.settle_records-tally.ensures.buffers)
           (does.heap_moves.stands run.state.map run.state.addresses at.stands.stands)
-          c.settle-tally.ensures.buffers in
-          subst (λ (r : OneRun). StandTogether r.state c.settle-tally.new.cache c.settle-tally.new.heap) (sym after.0) (record { stands = after.1; state = refl });
+          c.settle_records-tally.ensures.buffers in
+          subst (λ (r : OneRun). StandTogether r.state c.settle_records-tally.new.cache c.settle_records-tally.new.heap) (sym after.0) (record { stands = after.1; state = refl });
     }
 
 -- the same at the end
@@ -93,10 +93,10 @@ end_freed c m addresses stands =
     (together m addresses cache heap c.law_whole.ensures.whole c.requires.calm stands buffers)))
 
 end_of : (c : goal.After-law_whole-2) (m : RecordMap) (addresses : List ℕ) → StandsFor m addresses c.args.heap.now.heap →
-    Ending m addresses c.args.cache.now c.free_leftovers.new.cache c.free_leftovers.new.heap c.settle-tally.new.cache c.settle-tally.new.heap c.settle-tally.result
+    Ending m addresses c.args.cache.now c.free_leftovers.new.cache c.free_leftovers.new.heap c.settle_records-tally.new.cache c.settle_records-tally.new.heap c.settle_records-tally.result
 end_of c m addresses stands =
-    ending c.law_room.ensures.leftover c.law_stage.ensures.whole c.law_stage.ensures.said c.law_counts.ensures.out_along m addresses c.args.cache.now c.free_leftovers.new.cache c.settle-tally.new.cache
-    c.args.heap.now c.free_leftovers.new.heap c.settle-tally.new.heap c.settle-tally.result (there_count c.args.heap.now.heap.objects ∙ c.requires.count) (end_freed c m addresses stands) c.settle-tally.ensures.settles
+    ending c.law_room.ensures.leftover c.law_stage.ensures.whole c.law_stage.ensures.said c.law_counts.ensures.out_along m addresses c.args.cache.now c.free_leftovers.new.cache c.settle_records-tally.new.cache
+    c.args.heap.now c.free_leftovers.new.heap c.settle_records-tally.new.heap c.settle_records-tally.result (there_count c.args.heap.now.heap.objects ∙ c.requires.count) (end_freed c m addresses stands) c.settle_records-tally.ensures.settles
 
 pub returns-clause-stands : goal.returns-clause-stands
 returns-clause-stands c = λ m addresses stands. let e = end_of c m addresses stands in (e.others, e.stands)
