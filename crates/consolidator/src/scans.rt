@@ -48,11 +48,7 @@ pub fn settle<K: Kind, H: Owner<K>>(cache: &mut ObjectCache<K>, owner: &mut H) -
 }
 
 // Makes a desperate scan to its end, and answers whether it freed an old buffer.
-fn scan<K: Kind, H: Owner<K>>(
-    cache: &mut ObjectCache<K>,
-    owner: &mut H,
-    tally: &mut Tally,
-) -> bool
+fn scan<K: Kind, H: Owner<K>>(cache: &mut ObjectCache<K>, owner: &mut H, tally: &mut Tally) -> bool
     requires never { K.never_refuses ≡ true }
     requires whole { IsWholeStage (stage_with cache.old.state (H.stands owner.old)) }
     requires home { H.home owner.old ≡ cache.old.home }

@@ -17,11 +17,14 @@ use std::sync::Wait;
 
 /// What a bell says: 1 where someone may sleep at it.
 const AWAKE: u64 = 0;
+
 const ASLEEP: u64 = 1;
 
 // Who is so few turns from its own looks more often before it sleeps, and is woken if it sleeps.
 const NEAR: u64 = 3;
+
 const LOOKS_NEAR: u32 = 600;
+
 const LOOKS_FAR: u32 = 10;
 
 // How often it looks before it sleeps.

@@ -134,8 +134,8 @@ impl Shelf {
         requires of { IsBufferOf self.old.home.cells buf }
         requires known { stand ≢ Unknown }
         ensures { self.new ≡ record self.old {
-            stands = slice_set self.old.stands buf.number stand;
-            words = slice_set self.old.words buf.number (Some word);
+          stands = slice_set self.old.stands buf.number stand;
+          words = slice_set self.old.words buf.number (Some word);
         } }
     {
         let mut buf = buf;
@@ -149,8 +149,8 @@ impl Shelf {
         requires { stand_at self.old.stands number ≢ Unknown }
         ensures buf { (result.number ≡ number) × IsBufferOf self.old.home.cells result × (result.object ≡ 0) }
         ensures shelf { self.new ≡ record self.old {
-            stands = slice_set self.old.stands number Unknown;
-            words = slice_set self.old.words number None;
+          stands = slice_set self.old.stands number Unknown;
+          words = slice_set self.old.words number None;
         } }
     {
         match self.places[number as usize].take() {

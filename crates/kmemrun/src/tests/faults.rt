@@ -159,7 +159,15 @@ fn a_read_fault_at_the_last_count_but_one(rt: HostRuntime) -> Result<(), Fail> {
     };
     let (mut out, mut err) = (broken_sink(), broken_sink());
     let words = ["one", "2", "2"];
-    let ended = top(&rt, rt.alloc(), &words, &mut input, &mut out, &mut err, &Open);
+    let ended = top(
+        &rt,
+        rt.alloc(),
+        &words,
+        &mut input,
+        &mut out,
+        &mut err,
+        &Open,
+    );
     assert_eq!(rt; ended.status, Status::ReadFault);
     assert_eq!(rt;
         (input.faults, out.faults, err.faults),
@@ -177,7 +185,15 @@ fn a_write_fault_at_the_last_count_but_one(rt: HostRuntime) -> Result<(), Fail> 
     };
     let (mut out, mut err) = (broken_sink(), broken_sink());
     let words = ["one", "2", "2"];
-    let ended = top(&rt, rt.alloc(), &words, &mut input, &mut out, &mut err, &Open);
+    let ended = top(
+        &rt,
+        rt.alloc(),
+        &words,
+        &mut input,
+        &mut out,
+        &mut err,
+        &Open,
+    );
     assert_eq!(rt; ended.status, Status::WriteFault);
     assert_eq!(rt;
         (input.faults, out.faults, err.faults),
