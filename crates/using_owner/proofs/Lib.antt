@@ -1,1 +1,2 @@
 mod Shelved
+mod Stored

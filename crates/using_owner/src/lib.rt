@@ -12,6 +12,12 @@ use kmem_buf::{Answer, Buf, Home, Kind, Owner, Stand};
 use std::alloc::{AllocError, Global};
 use std::marker::Model;
 
+mod store;
+#[cfg(test)]
+mod tests;
+
+pub use store::Store;
+
 /// Makes words, which are 0 between two uses.
 #[derive(Drop)]
 pub struct Words;

@@ -1,0 +1,111 @@
+//! Words on a shelf, with the cache that their buffers come from.
+
+ghost use Rattle.std.specs.Prelude.{◌≡◌, ◌≢◌, ◌<◌, ◌≤◌, ◌*◌, Some, None, length, slice_set, slice_index_or, IfSome, IfNone};
+ghost use Rattle.kmem_buf.specs.Owners.{stand_at};
+ghost use Rattle.kmem_buf.specs.declared.owner.Stand.TheVariants.{Unknown};
+ghost use Rattle.consolidator.specs.Owned.{AreSettled, SettlesWith};
+ghost use Rattle.using_owner.specs.Stores.{held_by, Has};
+
+use crate::{Shelf, Words};
+use consolidator::settle;
+use kmem_buf::Stand;
+use kmem_model::{law_out, law_whole};
+use object_cache::{ObjectCache, Tally};
+use slab_source::Supply;
+use std::alloc::{AllocError, Global};
+use std::marker::Model;
+
+/// Words in buffers of a cache. To contracts it is the state of the cache, and the shelf.
+#[derive(Drop)]
+pub struct Store {
+    cache: ObjectCache<Words>,
+    shelf: Shelf,
+}
+
+impl Model for Store {
+    ghost use Rattle.using_owner.specs.Stores.{StoreState, AreStored};
+
+    ghost Value = { StoreState };
+
+    ghost view = { λ s. record { cache = s.cache.state; shelf = s.shelf } };
+
+    ghost invariant = { λ s. AreStored s.cache s.shelf };
+}
+
+impl Store {
+    /// No word, and so many slabs of so many buffers.
+    pub fn create(alloc: Global, slabs: u32, chunks: u32) -> Result<Store, AllocError>
+        requires slabs { (1 ≤ slabs) × (slabs ≤ 4096) }
+        requires chunks { (1 ≤ chunks) × (chunks ≤ 16) }
+    {
+        law_whole();
+        let supply = Supply::create(alloc, slabs)?;
+        let cache = ObjectCache::create(alloc, Words, supply, slabs, chunks, 1)?;
+        let shelf = Shelf::create(alloc, cache.home(), slabs * chunks)?;
+        Ok(Store { cache, shelf })
+    }
+
+    /// Puts a word into a buffer, and answers its number. None where no buffer is free.
+    pub fn put(&mut self, word: u64, stand: Stand) -> Option<u32>
+        requires { stand ≢ Unknown }
+        ensures put { IfSome result (λ number. Has self.new.shelf number word stand) }
+        ensures full { IfNone result (self.new ≡ self.old) }
+    {
+        law_out();
+        self.cache.law_whole();
+        self.shelf.law_size();
+        let Ok(buf) = self.cache.alloc() else {
+            return None;
+        };
+        let number = buf.number();
+        self.shelf.put(buf, word, stand);
+        Some(number)
+    }
+
+    /// Takes the word of a number away.
+    pub fn take(&mut self, number: u32) -> u64
+        requires { stand_at self.old.shelf.stands number ≢ Unknown }
+        ensures word { slice_index_or self.old.shelf.words number None ≡ Some result }
+        ensures shelf { self.new.shelf ≡ record self.old.shelf {
+            stands = slice_set self.old.shelf.stands number Unknown;
+            words = slice_set self.old.shelf.words number None;
+        } }
+    {
+        law_out();
+        self.cache.law_whole();
+        let word = self.shelf.word(number);
+        let buf = self.shelf.take(number);
+        self.cache.free(buf);
+        word
+    }
+
+    /// Settles: the words that can move move, and the cache is on as few slabs as the others let it.
+    pub fn settle(&mut self) -> Tally
+        ensures settles { SettlesWith self.old.cache self.new.cache (held_by self.old.shelf) (held_by self.new.shelf) result }
+        ensures settled { AreSettled self.new.cache self.new.shelf.stands }
+    {
+        settle(&mut self.cache, &mut self.shelf)
+    }
+
+    pub fn cache(&self) -> &ObjectCache<Words>
+        ensures { result.now.state ≡ self.now.cache }
+    {
+        &self.cache
+    }
+
+    pub fn shelf(&self) -> &Shelf
+        ensures { result.now ≡ self.now.shelf }
+    {
+        &self.shelf
+    }
+}
+
+impl Shelf {
+    // There is a place for each cell.
+    fn law_size(&self)
+        ensures stands { length self.now.stands ≡ length self.now.home.cells }
+        ensures words { length self.now.words ≡ length self.now.home.cells }
+    {
+        let _places = &self.places;
+    }
+}
