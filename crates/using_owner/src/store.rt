@@ -1,6 +1,6 @@
 //! Words on a shelf, with the cache that their buffers come from.
 
-ghost use Rattle.std.specs.Prelude.{◌≡◌, ◌≢◌, ◌<◌, ◌≤◌, ◌*◌, Some, None, length, slice_set, slice_index_or, IfSome, IfNone};
+ghost use Rattle.std.specs.Prelude.{◌≡◌, ◌≢◌, ◌↔◌, ◌≤◌, true, Some, None, length, slice_set, slice_index_or, IfSome, IfNone};
 ghost use Rattle.kmem_buf.specs.Owners.{stand_at};
 ghost use Rattle.kmem_buf.specs.declared.owner.Stand.TheVariants.{Unknown};
 ghost use Rattle.consolidator.specs.Owned.{AreSettled, SettlesWith};
@@ -60,6 +60,19 @@ impl Store {
         let number = buf.number();
         self.shelf.put(buf, word, stand);
         Some(number)
+    }
+
+    /// Whether a word stands in the buffer of this number.
+    pub fn has(&self, number: u32) -> bool
+        ensures { (result ≡ true) ↔ (stand_at self.now.shelf.stands number ≢ Unknown) }
+    {
+        if number as usize >= self.shelf.places.len() {
+            return false;
+        }
+        match self.shelf.stand(number) {
+            Stand::Unknown => false,
+            Stand::Movable | Stand::Spare | Stand::Fixed | Stand::Busy => true,
+        }
     }
 
     /// Takes the word of a number away.
