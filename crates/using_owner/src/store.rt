@@ -80,8 +80,8 @@ impl Store {
         requires { stand_at self.old.shelf.stands number ≢ Unknown }
         ensures word { slice_index_or self.old.shelf.words number None ≡ Some result }
         ensures shelf { self.new.shelf ≡ record self.old.shelf {
-            stands = slice_set self.old.shelf.stands number Unknown;
-            words = slice_set self.old.shelf.words number None;
+          stands = slice_set self.old.shelf.stands number Unknown;
+          words = slice_set self.old.shelf.words number None;
         } }
     {
         law_out();

@@ -55,7 +55,10 @@ fn word(store: &Store, number: u32) -> Option<u64> {
 }
 
 fn alone(index: Option<u32>) -> Option<SlabLine> {
-    Some(SlabLine { used: 1, stuck: index })
+    Some(SlabLine {
+        used: 1,
+        stuck: index,
+    })
 }
 
 // Five scans ask 2, 2, 3, 2 and 3 words to move. Where one was put off three times its slab is marked, and serves first from then on.
@@ -84,7 +87,17 @@ fn everything_movable(rt: HostRuntime) -> Result<(), Fail> {
     let mut store = Store::create(rt.alloc(), 3, 3)?;
     let (tally, lines) = settled(&mut store, Stand::Movable);
     assert_eq!(rt; (tally.begun, tally.yes), (2, 2));
-    assert_eq!(rt; lines, [Some(SlabLine { used: 3, stuck: None }), None, None]);
+    assert_eq!(rt;
+        lines,
+        [
+            Some(SlabLine {
+                used: 3,
+                stuck: None
+            }),
+            None,
+            None
+        ]
+    );
     Ok(())
 }
 
@@ -102,6 +115,9 @@ fn everything_spare(rt: HostRuntime) -> Result<(), Fail> {
 fn a_word_comes_along(rt: HostRuntime) -> Result<(), Fail> {
     let mut store = Store::create(rt.alloc(), 3, 3)?;
     let (_tally, _lines) = settled(&mut store, Stand::Movable);
-    assert_eq!(rt; (word(&store, 0), word(&store, 1), word(&store, 2)), (Some(0), Some(6), Some(3)));
+    assert_eq!(rt;
+        (word(&store, 0), word(&store, 1), word(&store, 2)),
+        (Some(0), Some(6), Some(3))
+    );
     Ok(())
 }
