@@ -1,5 +1,5 @@
 -- What is kept of the words of a shelf.
-use Rattle.std.proofs.Common.{◌≡◌, ◌≢◌, ℕ, zero, suc, ◌<◌, List, [], ◌∷◌, length, map, get_or, set, replicate, Option, Some, None, ⊎_elim, sym, ◌∙◌, ap, ap₂, refl, arith, subst}
+use Rattle.std.proofs.Common.{◌≡◌, ◌≢◌, ℕ, zero, suc, ◌<◌, List, ◌∷◌, length, map, get_or, set, replicate, Option, Some, None, ⊎_elim, sym, ◌∙◌, ap, ap₂, refl, arith, subst}
 use Rattle.std.proofs.lemmas.List.{length-replicate, length-map, length-set, get_or-replicate, get_or-set_same, get_or-set_other, get_or_past, map-set}
 use Rattle.std.proofs.lemmas.Option.{slice_get_within}
 use Rattle.std.proofs.lemmas.Bool.{cases_eq, cases_lt}

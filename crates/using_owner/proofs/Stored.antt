@@ -1,5 +1,5 @@
 -- What is kept of a store, where a word comes and where one goes.
-use Rattle.std.proofs.Common.{◌≡◌, ◌≢◌, ℕ, zero, suc, ◌*◌, ◌<◌, ◌==◌, ◌&&◌, ◌||◌, not, Bool, true, false, List, length, get_or, set, replicate, Some, None, subst, ⊎_elim, sym, ◌∙◌, ap, ap₂, refl, arith}
+use Rattle.std.proofs.Common.{◌≡◌, ◌≢◌, ℕ, zero, suc, ◌*◌, ◌<◌, ◌==◌, ◌&&◌, ◌||◌, not, true, false, List, length, get_or, set, replicate, Some, None, subst, ⊎_elim, sym, ◌∙◌, ap, refl}
 use Rattle.std.proofs.lemmas.List.{length-replicate, length-set, get_or_past, get_or-set_same, get_or-set_other}
 use Rattle.std.proofs.lemmas.Bool.{cases_eq, cases_lt, eq-eqb, ne_eqb}
 use Rattle.kmem_buf.specs.Owners.{stand_at}
@@ -8,7 +8,6 @@ use Rattle.kmem_buf.specs.declared.owner.Stand.TheVariants.{Movable, Spare, Fixe
 use Rattle.kmem_model.proofs.PlacesKept.{then_some_says}
 use Rattle.kmem_model.specs.CacheState.{CacheState, sizes_of, opening, is_out, has_pending}
 use Rattle.kmem_model.specs.CacheEnter.{enter, may_take, with_out, on_slab_of, slab_freed, emptied_goes}
-use Rattle.kmem_model.specs.Settle.{said_at}
 use Rattle.kmem_model.specs.SettleWhole.{IsWholeStage, is_known}
 use Rattle.kmem_model.specs.declared.cache_entry.CacheEntry.TheVariants.{Alloc, Free}
 use Rattle.kmem_model.specs.declared.cache_entry.Said.TheVariants.{DontKnow}

@@ -1,5 +1,5 @@
 -- A store: words on a shelf, with the cache that their buffers come from (this project's own).
-use Rattle.std.specs.Prelude.{◌≡◌, ℕ, false, List, Option, Some, None, slice_index_or}
+use Rattle.std.specs.Prelude.{◌≡◌, ℕ, false, Some, None, slice_index_or}
 use Rattle.kmem_buf.specs.Owners.{stand_at}
 use Rattle.kmem_buf.specs.declared.owner.Stand.{Stand}
 use Rattle.kmem_model.specs.CacheState.{CacheState, has_pending}

@@ -1,12 +1,11 @@
 //! An owner of one's own, whose objects settle may move: words in buffers of a cache, each with how it stands.
 #![tactic(auto)]
 
-ghost use Rattle.std.specs.Prelude.{◌≡◌, ◌≢◌, ◌<◌, ℕ, Some, None, length, replicate, slice_get, slice_set, slice_index_or, IfOk};
+ghost use Rattle.std.specs.Prelude.{◌≡◌, ◌≢◌, ◌<◌, Some, None, length, replicate, slice_get, slice_set, slice_index_or, IfOk};
 ghost use Rattle.kmem_buf.specs.Homes.{IsBufferOf};
 ghost use Rattle.kmem_buf.specs.Answers.{verdict_of, IsAnswerTo};
 ghost use Rattle.kmem_buf.specs.Owners.{stand_at, verdict_at, stands_after, tenants_after};
-ghost use Rattle.kmem_buf.specs.declared.owner.Stand.TheVariants.{Movable, Unknown};
-ghost use Rattle.using_owner.specs.Shelves.{ShelfState};
+ghost use Rattle.kmem_buf.specs.declared.owner.Stand.TheVariants.{Unknown};
 
 use kmem_buf::{Answer, Buf, Home, Kind, Owner, Stand};
 use std::alloc::{AllocError, Global};

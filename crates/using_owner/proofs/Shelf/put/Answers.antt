@@ -1,4 +1,4 @@
-use Rattle.std.proofs.Common.{◌≡◌, ℕ, Some, set, sym, ap, ap₂, subst, ◌∙◌}
+use Rattle.std.proofs.Common.{ℕ, Some, set, sym, ap₂, subst, ◌∙◌}
 use Rattle.kmem_buf.specs.Homes.{IsBufferOf}
 use Rattle.using_owner.specs.declared.Place.{Place}
 use Rattle.using_owner.specs.Shelves.{ShelfState}

@@ -1,4 +1,4 @@
-use Rattle.std.proofs.Common.{◌≡◌, ℕ, Option, Some, None, get_or, set, sym, ap, refl, subst, ◌∙◌}
+use Rattle.std.proofs.Common.{◌≡◌, Option, Some, None, get_or, set, sym, ap, refl, subst, ◌∙◌}
 use Rattle.std.proofs.lemmas.List.{get_or_read}
 use Rattle.kmem_buf.specs.Homes.{IsBufferOf}
 use Rattle.kmem_buf.specs.declared.owner.Stand.TheVariants.{Unknown}

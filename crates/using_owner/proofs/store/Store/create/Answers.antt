@@ -1,6 +1,5 @@
-use Rattle.std.proofs.Common.{◌≡◌, ◌*◌, ap, ap₂, sym, ◌∙◌, subst, arith, List, replicate, false}
+use Rattle.std.proofs.Common.{◌≡◌, ap, sym, ◌∙◌, subst, arith, List}
 use Rattle.kmem_buf.specs.declared.owner.Stand.{Stand}
-use Rattle.kmem_buf.specs.declared.owner.Stand.TheVariants.{Unknown}
 use Rattle.kmem_model.specs.CacheState.{CacheState, sizes_of, opening, has_pending}
 use Rattle.consolidator.specs.Owned.{AreOwned}
 use Rattle.using_owner.specs.Shelves.{ShelfState}

@@ -1,8 +1,6 @@
-use Rattle.std.proofs.Common.{◌≡◌, ◌<◌, ℕ, List, length, get_or, Some, None, ap, ap₂, sym, ◌∙◌, subst, arith}
-use Rattle.std.proofs.lemmas.List.{get_or-set_same, length-map}
+use Rattle.std.proofs.Common.{◌<◌, List, length, ap, sym, ◌∙◌, subst, arith}
 use Rattle.std.proofs.lemmas.Option.{slice_get_within}
 use Rattle.kmem_buf.specs.declared.owner.Stand.{Stand}
-use Rattle.kmem_buf.specs.declared.owner.Stand.TheVariants.{Unknown}
 use Rattle.kmem_model.specs.One.{buffers_of}
 use Rattle.consolidator.specs.Owned.{AreOwned}
 use Rattle.using_owner.specs.Shelves.{ShelfState}

@@ -1,8 +1,6 @@
-use Rattle.std.proofs.Common.{◌≡◌, ◌≢◌, ◌<◌, ℕ, List, length, set, ap, ap₂, sym, ◌∙◌, subst, arith}
+use Rattle.std.proofs.Common.{◌≡◌, ◌≢◌, ◌<◌, List, length, set, ap, sym, ◌∙◌, subst, arith}
 use Rattle.kmem_buf.specs.declared.owner.Stand.{Stand}
 use Rattle.kmem_buf.specs.declared.owner.Stand.TheVariants.{Unknown}
-use Rattle.kmem_model.specs.CacheState.{CacheState}
-use Rattle.kmem_model.specs.CacheEnter.{enter}
 use Rattle.consolidator.specs.Owned.{AreOwned}
 use Rattle.kmem_buf.specs.Owners.{stand_at}
 use Rattle.using_owner.specs.Shelves.{ShelfState}
