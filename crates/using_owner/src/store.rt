@@ -1,8 +1,12 @@
 //! Words on a shelf, with the cache that their buffers come from.
 
-ghost use Rattle.std.specs.Prelude.{◌≡◌, ◌≢◌, ◌↔◌, ◌≤◌, true, Some, None, length, slice_set, slice_index_or, IfSome, IfNone};
+ghost use Rattle.std.specs.Prelude.{◌≡◌, ◌≢◌, ◌↔◌, ◌≤◌, true, Some, None, length, replicate, slice_set, slice_index_or, ◌*◌, IfOk, IfSome, IfNone};
 ghost use Rattle.kmem_buf.specs.Owners.{stand_at};
 ghost use Rattle.kmem_buf.specs.declared.owner.Stand.TheVariants.{Unknown};
+ghost use Rattle.kmem_model.specs.CacheState.{sizes_of, opening};
+ghost use Rattle.kmem_model.specs.CacheEnter.{enter};
+ghost use Rattle.kmem_model.specs.CacheHistory.{MayEnter};
+ghost use Rattle.kmem_model.specs.declared.cache_entry.CacheEntry.TheVariants.{Alloc, Free, Full};
 ghost use Rattle.consolidator.specs.Owned.{AreSettled, SettlesWith};
 ghost use Rattle.using_owner.specs.Stores.{held_by, Has};
 
@@ -37,6 +41,8 @@ impl Store {
     pub fn create(alloc: Global, slabs: u32, chunks: u32) -> Result<Store, AllocError>
         requires slabs { (1 ≤ slabs) × (slabs ≤ 4096) }
         requires chunks { (1 ≤ chunks) × (chunks ≤ 16) }
+        ensures cache { IfOk result (λ s. s.cache ≡ opening (sizes_of slabs chunks 1)) }
+        ensures words { IfOk result (λ s. s.shelf.words ≡ replicate (slabs * chunks) None) }
     {
         law_whole();
         let supply = Supply::create(alloc, slabs)?;
@@ -45,11 +51,17 @@ impl Store {
         Ok(Store { cache, shelf })
     }
 
-    /// Puts a word into a buffer, and answers its number. None where no buffer is free.
+    /// Puts a word into a buffer, and answers its number. None exactly where every buffer is out.
     pub fn put(&mut self, word: u64, stand: Stand) -> Option<u32>
         requires { stand ≢ Unknown }
+        ensures entry { IfSome result (λ number. enter self.old.cache (Alloc number) ≡ Some self.new.cache) }
         ensures put { IfSome result (λ number. Has self.new.shelf number word stand) }
-        ensures full { IfNone result (self.new ≡ self.old) }
+        ensures shelf { IfSome result (λ number. self.new.shelf ≡ record self.old.shelf {
+          stands = slice_set self.old.shelf.stands number stand;
+          words = slice_set self.old.shelf.words number (Some word);
+        }) }
+        ensures full { (result ≡ None) ↔ MayEnter self.old.cache Full }
+        ensures kept { IfNone result (self.new ≡ self.old) }
     {
         law_out();
         self.cache.law_whole();
@@ -78,6 +90,7 @@ impl Store {
     /// Takes the word of a number away.
     pub fn take(&mut self, number: u32) -> u64
         requires { stand_at self.old.shelf.stands number ≢ Unknown }
+        ensures entry { enter self.old.cache (Free number) ≡ Some self.new.cache }
         ensures word { slice_index_or self.old.shelf.words number None ≡ Some result }
         ensures shelf { self.new.shelf ≡ record self.old.shelf {
           stands = slice_set self.old.shelf.stands number Unknown;
@@ -92,7 +105,7 @@ impl Store {
         word
     }
 
-    /// Settles: the words that can move move, and the cache is on as few slabs as the others let it.
+    /// Settles: the words that can move are moved until at most one slab is partial, or each partial one has a word that can't.
     pub fn settle(&mut self) -> Tally
         ensures settles { SettlesWith self.old.cache self.new.cache (held_by self.old.shelf) (held_by self.new.shelf) result }
         ensures settled { AreSettled self.new.cache self.new.shelf.stands }
