@@ -22,7 +22,7 @@ use Rattle.hist_lock.specs.declared.rule.View.{View}
 use Rattle.hist_lock.specs.History.{IsFront, entries_of}
 use Rattle.table_sums.specs.Spread.{IsSpread}
 use Rattle.hist_lock.specs.Rule.{drawn, tickets_of, claim_numbers, left_of, own, FitsClaim, FitsStage, FitsSeat, IsHome, IsIn, IsOut, OneLog}
-use Rattle.hist_lock.specs.Steps.{at_stage, drew, with_journal, took, raised, Sat, IsAt, Draws, Looks, Takes, journal_of, Raises, Gives, Serves, Rings}
+use Rattle.hist_lock.specs.Steps.{at_stage, drew, with_journal, took, learned, raised, Sat, IsAt, Draws, Looks, Takes, journal_of, Learns, Raises, Gives, Serves}
 use Rattle.table_sums.proofs.Spreads.{seats_set, spread_kept}
 use Rattle.table_sums.proofs.Totals.{total_set, run_last, run_first}
 use Rattle.hist_lock.proofs.Keeps.{drawn_waiting, drawn_called, drawn_holding, out_kept, in_kept, few, in_line, alone, dealt_number, others_differ, room_at, changed}
@@ -319,10 +319,33 @@ module _ {O E H : Type 0} (bounds : Bounds H) (stands : O → List (ℕ × E) �
         refl,
       )
 
-  -- a bell tells nothing
-  pub rings : (slots id : ℕ) (me : M) (i new : ℕ) → 3 ≤ i → Allows R slots id me i (λ _. new) (λ _. Rings (step slots i new 0 none) me new)
-  rings slots id me i new bell s r one at small =
-      let v = me.0 in
+  pub learns : (slots id : ℕ) (me : M) → IsAt Idle [] me → Allows R slots id me 2 (λ n. n) (Learns (step slots 2 0 0 none) me)
+  learns slots id me is s r one at small =
+      let v = me.0 in let log = r.log in let w = learned log v in let c = with_journal log (own v) in
+      let f = r.seats id v at in let mine = own_fits s r id v at is.1 in
+      let found : get_or s.words 2 0 ≡ length r.log = ap (λ ws. get_or ws 2 0) r.words in
+      let numbers : claim_numbers w ≡ claim_numbers v = ap (map (λ (c : Claim E). c.number)) (sym is.1) in
+      let none_yet : tickets_of w ≡ [] = ap (λ st. drawn st v.ticket) is.0 in (
+        w,
+        keeps,
+        tt,
+        changed bounds stands home_of s r id v w at (set s.words 2 (get_or s.words 2 0)) s.homes r.serving r.waiting r.log r.bells (same_words s r 2)
+            (spread_kept tickets_of s.views (range_with_len r.serving r.waiting) id v w at refl r.tickets) numbers (omega arith) r.known
+            (record {
+              of = f.of;
+              deals = f.deals;
+              claims = All-cons (FitsClaim log) c [] (([], append-nil log), refl) (All-nil (FitsClaim log));
+              stage = subst (FitsStage r.serving log v.ticket c) (sym is.0) tt;
+              ticket = omega (arith, ap length none_yet);
+            })
+            (λ j u _ _ f. f) (slot_kept s r id v w at (idle_only v.stage is.0) (idle_only v.stage is.0)),
+        (log, found, refl, mine.0, mine.1),
+      )
+
+  -- a bell tells nothing, whatever it is set to
+  pub rings : (slots id : ℕ) (me : M) (i : ℕ) (f : ℕ → ℕ) → 3 ≤ i → Allows R slots id me i f (λ _ me'. me' ≡ me)
+  rings slots id me i f bell s r one at small =
+      let v = me.0 in let new = f (get_or s.words i 0) in
       let rung = set_bell i ((r.serving + r.waiting) % 2 ^ 64) (r.serving % 2 ^ 64) (length r.log) new r.bells bell in
       let words = ap (λ ws. set ws i new) r.words ∙ rung.1 in (
         v,

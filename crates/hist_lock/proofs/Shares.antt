@@ -1,5 +1,5 @@
 -- The rule holds at the start, is kept where seats are split and joined, and says at the end what the lock's close does.
-use Rattle.std.proofs.Common.{◌≡◌, ◌≢◌, ◌==◌, ℕ, zero, suc, ◌+◌, ◌^◌, ◌<◌, ◌≤◌, List, [], ◌∷◌, ◌++◌, map, length, replicate, set, refl, sym, ap, ◌∙◌, subst, inl, inr, ⊎_elim, arith, All, Contains, Some, unwrap_or, vec_capacity, ne_eqb, cond}
+use Rattle.std.proofs.Common.{◌≡◌, ◌≢◌, ◌==◌, ℕ, zero, suc, ◌+◌, ◌^◌, ◌<◌, ◌≤◌, List, [], ◌∷◌, ◌++◌, map, length, set, refl, sym, ap, ◌∙◌, subst, inl, inr, ⊎_elim, arith, All, Contains, Some, unwrap_or, vec_capacity, ne_eqb, cond}
 use Rattle.std.proofs.lemmas.List.{map-append, length-map}
 use Rattle.std.proofs.lemmas.List.Sums.{sum_by-append, sum_by_push}
 use Rattle.std.proofs.lemmas.List.Elements.{All-nil, All-cons, All-head, All-tail, All-append, All-weaker}
@@ -46,15 +46,15 @@ module _ {O E H : Type 0} (bounds : Bounds H) (stands : O → List (ℕ × E) �
   abbrev Home : List (maybe.Option (Held O E)) → List (ℕ × E) → List V → Type 0
   Home homes log views = (held : Held O E) × (homes ≡ some held ∷ []) × IsHome bounds stands home_of log held × IsIn views
 
-  pub opens : (held : Held O E) → held.journal.items ≡ [] → stands held.object [] → home_of held.object ≡ bounds.home → bounds.room ≤ vec_capacity held.journal
-      → bounds.room < 2 ^ 32 → bounds.count < 2 ^ 32 → R (opening (0 ∷ 0 ∷ 0 ∷ replicate 16 0) (held ∷ []) (dealer bounds))
-  opens held empty stood home roomy room count = record {
+  pub opens : (bells : List ℕ) (held : Held O E) → held.journal.items ≡ [] → stands held.object [] → home_of held.object ≡ bounds.home → bounds.room ≤ vec_capacity held.journal
+      → bounds.room < 2 ^ 32 → bounds.count < 2 ^ 32 → R (opening (0 ∷ 0 ∷ 0 ∷ bells) (held ∷ []) (dealer bounds))
+  opens bells held empty stood home roomy room count = record {
     small = (room, count);
     serving = 0;
     waiting = 0;
     dealt = 0;
     log = [];
-    bells = replicate 16 0;
+    bells = bells;
     words = refl;
     tickets = λ f. refl;
     numbers = λ f. refl;

@@ -67,3 +67,25 @@ pub record IsTurn {O E H Out : Type 0} (stands : O → List (ℕ × E) → Type 
   pub exact : entries_of old.number new.seen ≡ new.mine
   pub site : new.site ≡ old.site
   pub number : new.number ≡ old.number
+
+-- the pass has learned of entries of others, and has seen so many entries
+pub record HasReached {E H : Type 0} (count : ℕ) (old new : PassState E H) : Type 0 where
+  pub front : IsFront old.seen new.seen
+  pub long : count ≤ length new.seen
+  pub mine : new.mine ≡ old.mine
+  pub left : new.left ≡ old.left
+  pub site : new.site ≡ old.site
+  pub number : new.number ≡ old.number
+
+-- The pass waited until the history had so many entries: it has then seen a history that it might meet and that has so many,
+-- for which an object of the lock's home stood
+pub record HasAwaited {O E H : Type 0} (stands : O → List (ℕ × E) → Type 0) (home_of : O → H) (count : ℕ) (old new : PassState E H) :
+    Type 0 where
+  pub met : MayMeet old new.seen
+  pub long : count ≤ length new.seen
+  pub object : O
+  pub stood : IsObjectOf stands home_of old.site.home new.seen object
+  pub mine : new.mine ≡ old.mine
+  pub left : new.left ≡ old.left
+  pub site : new.site ≡ old.site
+  pub number : new.number ≡ old.number

@@ -7,14 +7,14 @@ use Rattle.hist_lock.specs.declared.rule.Bounds.{Bounds}
 use Rattle.hist_lock.specs.declared.rule.Claim.{Claim}
 use Rattle.hist_lock.specs.declared.rule.Stage.TheVariants.{Idle, Holding}
 use Rattle.hist_lock.specs.declared.rule.View.{View}
-use Rattle.hist_lock.specs.History.{entries_of, told}
+use Rattle.hist_lock.specs.History.{IsFront, entries_of, told}
 use Rattle.hist_lock.specs.Passes.{Site, PassState}
 use Rattle.hist_lock.specs.Rule.{own}
 use Rattle.hist_lock.specs.Steps.{Sat, IsAt, IsFound, with_journal}
 
 -- the seat is one of this table, which is a lock's
 abbrev pub IsSeatOf : TableId → TableId → Type 0
-IsSeatOf seat line = (seat ≡ line) × (line.words ≡ 19) × (line.slots ≡ 1)
+IsSeatOf seat line = (seat ≡ line) × (line.words ≡ 21) × (line.slots ≡ 1)
 
 abbrev pub IsSameSeat : {S V : Type 0} → Seat S V → Seat S V → Type 0
 IsSameSeat s t = (t.table_id ≡ s.table_id) × (t.id ≡ s.id)
@@ -44,6 +44,15 @@ pub record IsResting {O E H : Type 0} (b : Bounds H) (number left : ℕ) (me : S
 -- the view v has become w, which differs in the stage, the ticket and what is said
 abbrev pub IsSameView : {E H : Type 0} → View E H → View E H → Type 0
 IsSameView v w = (w.bounds ≡ v.bounds) × (w.left ≡ v.left)
+
+-- the seat is idle, and has learned of entries of others alone
+pub record HasLearned {O E H : Type 0} (v : View E H) (me : Sat O E H) : Type 0 where
+  pub idle : IsAt Idle [] me
+  pub same : IsSameView v me.0
+  pub number : (own me.0).number ≡ (own v).number
+  pub front : IsFront (own v).seen (own me.0).seen
+  pub mine : (own me.0).mine ≡ (own v).mine
+  pub exact : entries_of (own me.0).number (own me.0).seen ≡ (own me.0).mine
 
 -- the seat has taken the value, and has seen its journal
 pub record HasEntered {O E H : Type 0} (stands : O → List (ℕ × E) → Type 0) (home_of : O →

@@ -25,6 +25,9 @@ module _ {E H : Type 0} where
   abbrev pub took : List (ℕ × E) → View E H → View E H
   took journal v = record v { stage = Holding; claims = with_journal journal (own v) ∷ [] }
 
+  abbrev pub learned : List (ℕ × E) → View E H → View E H
+  learned log v = record v { claims = with_journal log (own v) ∷ [] }
+
   abbrev pub raised : List (ℕ × E) → View E H → View E H
   raised journal v = record v { left = v.left - 1; claims = with_journal journal (own v) ∷ [] }
 
@@ -93,6 +96,11 @@ module _ {O E H : Type 0} where
 
   abbrev pub Serves : Step (Held O E) → Sat O E H → ℕ → Sat O E H → Type 0
   Serves s me found me' = me' ≡ (at_stage Idle me.0, me.1)
+
+  -- the pass learns the history as it is, whose length is found
+  abbrev pub Learns : Step (Held O E) → Sat O E H → ℕ → Sat O E H → Type 0
+  Learns s me found me' = (log : List (ℕ × E)) × (found ≡ length log) × (me' ≡ (learned log me.0, me.1)) ×
+      IsFront (own me.0).seen log × (entries_of (own me.0).number log ≡ (own me.0).mine)
 
   -- a bell is set, which tells the seat nothing
   abbrev pub Rings : Step (Held O E) → Sat O E H → ℕ → Sat O E H → Type 0

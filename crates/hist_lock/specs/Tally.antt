@@ -21,6 +21,10 @@ sums_before more number (x ∷ xs) = if x.0 == number then more ∷ sums_before 
 abbrev pub MayAdd : Site ℕ → PassState ℕ ℕ → List ℕ → ℕ → Type 0
 MayAdd site pass found room = (pass.site ≡ site) × (pass.left ≤ 10000) × (pass.seen ≡ []) × (found ≡ []) × (pass.left ≤ room)
 
+-- the pass may add at the lock
+abbrev pub IsAdder : Site ℕ → PassState ℕ ℕ → Type 0
+IsAdder site pass = (pass.site ≡ site) × (pass.left ≤ 10000)
+
 -- the pass has nothing left, and each of its turns found what the entries before its own add up to
 abbrev pub IsDone : Site ℕ → ℕ → PassState ℕ ℕ → List ℕ → Type 0
 IsDone site number pass found = (pass.site ≡ site) × (pass.number ≡ number) × (pass.left ≡ 0) ×

@@ -6,7 +6,7 @@ ghost use Rattle.hist_lock.specs.Seats.{IsSeatOf, IsSameSeat, IsDealer, site_of}
 
 use crate::pass::Pass;
 use crate::rule::{Held, Line, Place, Quota, Terms, Whole};
-use crate::steps::{WORDS, split};
+use crate::steps::{AWAITED, NO_COUNT, WORDS, split};
 use crate::told::Told;
 use atomic_table::Table;
 use std::alloc::{AllocError, Global};
@@ -21,13 +21,15 @@ pub fn lay<O: Told + Drop>(
     requires stands { O.stands object [] }
     requires home { O.home object ≡ O.home terms.now.origin.value }
     requires small { (terms.now.room < 2 ^ 32) × (terms.now.count < 2 ^ 32) }
-    ensures table { IfOk result (λ r. (r.0.shared.table_id.words ≡ 19) × (r.0.shared.table_id.slots ≡ 1) × (r.0.shared.key ≡ terms.now)) }
+    ensures table { IfOk result (λ r. (r.0.shared.table_id.words ≡ 21) × (r.0.shared.table_id.slots ≡ 1) × (r.0.shared.key ≡ terms.now)) }
     ensures seat { IfOk result (λ r. (r.1.table_id ≡ r.0.shared.table_id) × (r.1.me ≡ (dealer (bounds_of O.home terms.now), []))) }
 {
     let journal = Vec::with_capacity(alloc, terms.room as usize)?;
     let mut slots = Vec::with_capacity(alloc, 1)?;
     slots.push_reserved(Held { object, journal });
-    match Table::new(alloc, &[0; WORDS], slots, terms) {
+    let mut words = [0; WORDS];
+    words[AWAITED] = NO_COUNT;
+    match Table::new(alloc, &words, slots, terms) {
         Ok(made) => Ok(made),
         Err(_) => Err(AllocError),
     }

@@ -9,7 +9,7 @@ use crate::told::Told;
 
 /// Puts all passes' seats into one, which knows what they know.
 pub fn gather_all<O: Told>(line: &Line<O>, mut passes: Vec<Pass<O>>) -> Place<O>
-    requires line { (line.now.table_id.words ≡ 19) × (line.now.table_id.slots ≡ 1) }
+    requires line { (line.now.table_id.words ≡ 21) × (line.now.table_id.slots ≡ 1) }
     requires of { All (λ p. p.site.table ≡ line.now.table_id) passes.items }
     requires some { 0 < length passes.items }
     ensures table { result.table_id ≡ line.now.table_id }

@@ -9,8 +9,11 @@ ghost use Rattle.hist_lock.specs.Rule.{own};
 ghost use Rattle.hist_lock.specs.Steps.{IsAt, at_stage};
 ghost use Rattle.hist_lock.specs.Seats.{IsSeatOf, IsSameSeat, HasEntered, HasRun, HasNoted};
 
+use crate::awaiting::call_awaiting;
 use crate::rule::{Line, Place};
-use crate::steps::{bell_of, draw, give, look, raise, serve, set_bell, take};
+use crate::steps::{
+    DOOR, SERVED, TICKETS, bell_of, draw, give, look, raise, serve, set_bell, take,
+};
 use crate::told::{Told, Turn};
 use std::hint::spin_loop;
 use std::sync::Wait;
@@ -33,6 +36,49 @@ fn patience(ticket: u64, served: u64) -> u32 {
         LOOKS_NEAR
     } else {
         LOOKS_FAR
+    }
+}
+
+/// How many tickets may be out before a pass that comes sleeps at the door.
+const CROWD: u64 = 2;
+
+/// At each so manieth ticket the door lets one in, whoever waits with a ticket.
+const TURNOVER: u64 = 16;
+
+// How many tickets are out.
+fn out<O: Told>(line: &Line<O>) -> u64
+    requires { line.now.table_id.words ≡ 21 }
+{
+    let served = line.peek(SERVED);
+    line.peek(TICKETS).wrapping_sub(served)
+}
+
+// Sleeps at the door where many tickets are out. Between shutting the door and sleeping it looks once more, so that the holder of
+// a ticket that was out then finds the door shut. Who was woken shuts it again, since others may sleep there.
+fn pass_door<O: Told, R: Wait>(rt: &R, line: &Line<O>, seat: &mut Place<O>)
+    requires of { IsSeatOf seat.old.table_id line.now.table_id }
+    ensures same { IsSameSeat seat.old seat.new }
+    ensures me { seat.new.me ≡ seat.old.me }
+{
+    if out(line) <= CROWD {
+        return;
+    }
+    set_bell(line, seat, DOOR, ASLEEP);
+    if out(line) > CROWD {
+        line.park(rt, DOOR, ASLEEP as u32);
+        set_bell(line, seat, DOOR, ASLEEP);
+    }
+}
+
+// Lets one in who sleeps at the door, where nobody has a ticket, or now and then.
+fn open_door<O: Told>(line: &Line<O>, seat: &mut Place<O>, next: u64)
+    requires { IsSeatOf seat.old.table_id line.now.table_id }
+    ensures same { IsSameSeat seat.old seat.new }
+    ensures me { seat.new.me ≡ seat.old.me }
+{
+    if line.peek(DOOR) != AWAKE && (next % TURNOVER == 0 || line.peek(TICKETS) == next) {
+        set_bell(line, seat, DOOR, AWAKE);
+        line.wake_one(DOOR);
     }
 }
 
@@ -81,6 +127,17 @@ fn rouse<O: Told>(line: &Line<O>, seat: &mut Place<O>, ticket: u64)
     }
 }
 
+// Wakes who sleeps at the bells of this ticket and of the next few, so that each has come up when its turn comes.
+fn rouse_from<O: Told>(line: &Line<O>, seat: &mut Place<O>, ticket: u64)
+    requires { IsSeatOf seat.old.table_id line.now.table_id }
+    ensures same { IsSameSeat seat.old seat.new }
+    ensures me { seat.new.me ≡ seat.old.me }
+{
+    for ahead in 0..=NEAR {
+        rouse(line, seat, ticket.wrapping_add(ahead));
+    }
+}
+
 /// Waits for the value and takes it.
 pub fn enter<O: Told, R: Wait>(rt: &R, line: &Line<O>, seat: &mut Place<O>)
     requires of { IsSeatOf seat.old.table_id line.now.table_id }
@@ -88,6 +145,7 @@ pub fn enter<O: Told, R: Wait>(rt: &R, line: &Line<O>, seat: &mut Place<O>)
     ensures same { IsSameSeat seat.old seat.new }
     ensures entered { (held : Held O O.Entry) × HasEntered O.stands O.home seat.old.me.0 held seat.new.me }
 {
+    pass_door(rt, line, seat);
     let ticket = draw(line, seat);
     wait_for(rt, line, seat, ticket);
     take(line, seat);
@@ -156,8 +214,8 @@ pub fn note<O: Told>(
     }
 }
 
-/// Gives the value back and lets the next ticket be served. Wakes its holder where it sleeps, and the holder of one a few
-/// turns on, which has come up by then.
+/// Gives the value back and lets the next ticket be served. Wakes its holder and those of the next few where they sleep, those
+/// that wait for a count that is reached, and at times one at the door.
 pub fn leave<O: Told>(line: &Line<O>, seat: &mut Place<O>)
     requires of { IsSeatOf seat.old.table_id line.now.table_id }
     requires whole { (held : Held O O.Entry) × (b : Bounds O.Home) × IsAt Holding ((0, held) ∷ []) seat.old.me ×
@@ -168,6 +226,7 @@ pub fn leave<O: Told>(line: &Line<O>, seat: &mut Place<O>)
 {
     give(line, seat);
     let next = serve(line, seat).wrapping_add(1);
-    rouse(line, seat, next);
-    rouse(line, seat, next.wrapping_add(NEAR));
+    rouse_from(line, seat, next);
+    call_awaiting(line, seat);
+    open_door(line, seat, next);
 }

@@ -1,6 +1,7 @@
 //! A lock whose value stands for a history: each turn's result is the object's at one place of one history.
 #![tactic(auto)]
 
+mod awaiting;
 mod deal;
 mod gather;
 mod hold;

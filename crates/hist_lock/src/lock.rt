@@ -3,14 +3,15 @@ ghost use Rattle.std.specs.Prelude.{◌≡◌, ℕ, ◌+◌, ◌^◌, ◌<◌, �
 ghost use Rattle.hist_lock.specs.History.{IsFront, entries_of};
 ghost use Rattle.std.specs.List.{sum_by, range_with_len};
 ghost use Rattle.table_sums.specs.Spread.{IsNumbering};
-ghost use Rattle.hist_lock.specs.Passes.{MayRun, IsQuiet, IsTurn, fresh_passes};
+ghost use Rattle.hist_lock.specs.Passes.{MayRun, IsQuiet, IsTurn, HasReached, HasAwaited, fresh_passes};
 
+use crate::awaiting::reach;
 use crate::deal::{deal_all, lay};
 use crate::gather::gather_all;
 use crate::hold::{enter, leave, note, run};
 use crate::pass::Pass;
 use crate::rule::{Held, Terms, Whole};
-use crate::told::{Told, Turn};
+use crate::told::{Nothing, Told, Turn};
 use std::alloc::{AllocError, Global};
 use std::marker::Model;
 use std::snapshot::Snapshot;
@@ -33,7 +34,7 @@ impl<O: Told> Model for HistLock<O> {
 
     ghost view = { λ l. site_of l.table.shared.table_id (bounds_of O.home l.table.shared.key) };
 
-    ghost invariant = { λ l. (l.table.shared.table_id.words ≡ 19) × (l.table.shared.table_id.slots ≡ 1) × (0 < l.table.shared.key.count) };
+    ghost invariant = { λ l. (l.table.shared.table_id.words ≡ 21) × (l.table.shared.table_id.slots ≡ 1) × (0 < l.table.shared.key.count) };
 }
 
 impl<O: Told + Drop> HistLock<O> {
@@ -97,6 +98,24 @@ impl<O: Told> HistLock<O> {
         let None = entry else { unreachable!() };
         leave(line, &mut pass.seat);
         out
+    }
+
+    // Waits until the history has so many entries. The pass has then seen these.
+    fn reach<R: Wait>(&self, rt: &R, pass: &mut Pass<O>, count: u32)
+        requires of { pass.old.site ≡ self.now }
+        ensures { HasReached count pass.old pass.new }
+    {
+        reach(rt, &self.table.shared, &mut pass.seat, count);
+    }
+
+    /// Comes back once the history has so many entries; the pass has then seen one that has. It sleeps until then, and makes one
+    /// turn at the end, so it comes back only where other passes make these entries.
+    pub fn await_count<R: Wait>(&self, rt: &R, pass: &mut Pass<O>, count: u32)
+        requires of { pass.old.site ≡ self.now }
+        ensures { HasAwaited O.stands O.home count pass.old pass.new }
+    {
+        self.reach(rt, pass, count);
+        self.look(rt, pass, Nothing)
     }
 
     /// Ends the lock, once all its passes are back: gives the object, and the history that it stands for.

@@ -1,6 +1,6 @@
 //! The table under the lock: its words, its slot, and what its seats know.
 //! Word 0 counts the tickets that were drawn, word 1 those that were served, and word 2 is the length of the history. The
-//! words from 3 on are bells.
+//! words from 3 on are bells; behind these come the least count of entries that is waited for, and the door.
 //! Slot 0 has the value.
 use crate::told::Told;
 use atomic_table::{Join, Play, Seat, Shared, Split, Table, TableRule};
@@ -123,6 +123,14 @@ impl<O, E, H> Play<Held<O, E>, View<E, H>> for Ring {
     ghost use Rattle.hist_lock.specs.Steps.{Rings};
 
     ghost then = { Rings };
+}
+
+pub struct Learn;
+
+impl<O, E, H> Play<Held<O, E>, View<E, H>> for Learn {
+    ghost use Rattle.hist_lock.specs.Steps.{Learns};
+
+    ghost then = { Learns };
 }
 
 /// How many entries a pass may make. Each call that deals a pass picks it.

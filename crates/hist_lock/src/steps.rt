@@ -4,10 +4,13 @@ ghost use Rattle.hist_lock.specs.declared.rule.Held.{Held};
 ghost use Rattle.hist_lock.specs.declared.rule.Bounds.{Bounds};
 ghost use Rattle.hist_lock.specs.declared.rule.Stage.TheVariants.{Idle, Waiting, Called, Holding};
 ghost use Rattle.hist_lock.specs.Rule.{own};
-ghost use Rattle.hist_lock.specs.Steps.{IsAt, IsFound, drew, at_stage, took, raised, journal_of, joined, dealt_one, newcomer};
+ghost use Rattle.hist_lock.specs.History.{IsFront, entries_of};
+ghost use Rattle.hist_lock.specs.Steps.{IsAt, IsFound, drew, at_stage, took, learned, raised, journal_of, joined, dealt_one, newcomer};
 ghost use Rattle.hist_lock.specs.Seats.{IsSeatOf, IsSameSeat};
 
-use crate::rule::{Deal, Draw, Gather, Give, Line, Look, Place, Quota, Raise, Ring, Serve, Take};
+use crate::rule::{
+    Deal, Draw, Gather, Give, Learn, Line, Look, Place, Quota, Raise, Ring, Serve, Take,
+};
 use crate::told::Told;
 
 /// The word that counts the tickets that were drawn.
@@ -25,8 +28,17 @@ const BELLS: usize = 3;
 // How many bells there are.
 const BELL_COUNT: u64 = 16;
 
+/// The word that has the least count of entries that is waited for.
+pub const AWAITED: usize = BELLS + BELL_COUNT as usize;
+
+/// What that word has while no count is waited for.
+pub const NO_COUNT: u64 = u64::MAX;
+
+/// The word at which passes sleep before they draw a ticket.
+pub const DOOR: usize = AWAITED + 1;
+
 /// How many words there are.
-pub const WORDS: usize = BELLS + BELL_COUNT as usize;
+pub const WORDS: usize = DOOR + 1;
 
 /// Draws a ticket.
 pub fn draw<O: Told>(line: &Line<O>, seat: &mut Place<O>) -> u64
@@ -104,11 +116,31 @@ pub fn bell_of(ticket: u64) -> usize
 /// Sets a bell.
 pub fn set_bell<O: Told>(line: &Line<O>, seat: &mut Place<O>, bell: usize, to: u64)
     requires of { IsSeatOf seat.old.table_id line.now.table_id }
-    requires bell { (3 ≤ bell) × (bell < 19) }
+    requires bell { (3 ≤ bell) × (bell < 21) }
     ensures same { IsSameSeat seat.old seat.new }
     ensures me { seat.new.me ≡ seat.old.me }
 {
     line.store::<Ring>(seat, bell, to);
+}
+
+/// Sets the word of the least count that is waited for to this one, unless it has a smaller one. Answers what it had.
+pub fn lower_awaited<O: Told>(line: &Line<O>, seat: &mut Place<O>, count: u64) -> u64
+    requires of { IsSeatOf seat.old.table_id line.now.table_id }
+    ensures same { IsSameSeat seat.old seat.new }
+    ensures me { seat.new.me ≡ seat.old.me }
+{
+    line.fetch_min::<Ring>(seat, AWAITED, count)
+}
+
+/// Looks how long the history is, and has then seen one of this length.
+pub fn learn<O: Told>(line: &Line<O>, seat: &mut Place<O>) -> u64
+    requires of { IsSeatOf seat.old.table_id line.now.table_id }
+    requires idle { IsAt Idle [] seat.old.me }
+    ensures same { IsSameSeat seat.old seat.new }
+    ensures learned { (log : List (ℕ × O.Entry)) × (result ≡ length log) × (seat.new.me ≡ (learned log seat.old.me.0, [])) ×
+        IsFront (own seat.old.me.0).seen log × (entries_of (own seat.old.me.0).number log ≡ (own seat.old.me.0).mine) }
+{
+    line.load::<Learn>(seat, LENGTH)
 }
 
 /// Deals the next pass's seat.

@@ -1,16 +1,16 @@
 //! A client: several threads add to one sum.
-ghost use Rattle.std.specs.Prelude.{◌≡◌, ◌≤◌, [], IfOk, vec_capacity};
-ghost use Rattle.hist_lock.specs.Tally.{sum_of, sums_before, MayAdd, IsDone};
+ghost use Rattle.std.specs.Prelude.{◌≡◌, ◌≤◌, ◌<◌, [], All, length, IfOk, vec_capacity};
+ghost use Rattle.hist_lock.specs.Tally.{sum_of, sums_before, MayAdd, IsAdder, IsDone};
 
 use crate::{HistLock, Pass};
 use std::alloc::{AllocError, Global};
 use std::sync::Wait;
 use std::test::Fail;
-use std::thread::{Threads, join};
+use std::thread::{Threads, for_each_mut, join};
 
 mod tally;
 
-use tally::{Done, Tally, add_all, amount, read_once};
+use tally::{Done, Read, Tally, add_all, add_each, amount, read_once};
 
 // The sum, the history, and what the turns of two passes found.
 #[derive(Drop)]
@@ -97,75 +97,120 @@ fn two_threads<R: Threads + Wait + Sync>(
     })
 }
 
-// Makes room for what the pass's turns will find.
-fn ready(alloc: Global, pass: Pass<Tally>) -> Result<Done, AllocError>
-    requires { pass.left ≤ 10000 }
-    ensures { IfOk result (λ done. (done.pass ≡ pass) × (done.found.items ≡ []) × (pass.left ≤ vec_capacity done.found)) }
-{
-    let found = Vec::with_capacity(alloc, pass.left() as usize)?;
-    Ok(Done { pass, found })
-}
-
-// Four threads add ten thousand times each.
-fn four_threads<R: Threads + Wait + Sync>(
-    rt: &R,
-    alloc: Global,
-) -> Result<(u64, Vec<(u32, u32)>), AllocError>
-    ensures { IfOk result (λ r. r.0 ≡ sum_of r.1.items) }
-{
-    let quotas = [10000, 10000, 10000, 10000];
-    let (lock, mut passes) = HistLock::create(alloc, new_tally(), &quotas)?;
-    let (Some(d), Some(c)) = (passes.pop(), passes.pop()) else {
-        unreachable!()
-    };
-    let (Some(b), Some(a)) = (passes.pop(), passes.pop()) else {
-        unreachable!()
-    };
-    let (a, b) = (ready(alloc, a)?, ready(alloc, b)?);
-    let (c, d) = (ready(alloc, c)?, ready(alloc, d)?);
-    let ((a, b), (c, d)) = add_four(rt, &lock, (a, b), (c, d));
-    passes.push_reserved(a.pass);
-    passes.push_reserved(b.pass);
-    passes.push_reserved(c.pass);
-    passes.push_reserved(d.pass);
-    let (object, history) = lock.close(passes);
-    Ok((object.sum, history))
-}
-
-fn add_four<R: Threads + Wait + Sync>(
+// All passes add in a thread each.
+fn add_together<R: Threads + Wait + Sync>(
     rt: &R,
     lock: &HistLock<Tally>,
-    one: (Done, Done),
-    other: (Done, Done),
-) -> ((Done, Done), (Done, Done))
+    passes: &mut [Pass<Tally>],
+)
     requires most { lock.now.home ≡ 10000000 }
-    requires one { MayAdd lock.now one.0.pass one.0.found.items (vec_capacity one.0.found) ×
-        MayAdd lock.now one.1.pass one.1.found.items (vec_capacity one.1.found) }
-    requires other { MayAdd lock.now other.0.pass other.0.found.items (vec_capacity other.0.found) ×
-        MayAdd lock.now other.1.pass other.1.found.items (vec_capacity other.1.found) }
-    ensures one { (result.0.0.pass.site ≡ lock.now) × (result.0.1.pass.site ≡ lock.now) }
-    ensures other { (result.1.0.pass.site ≡ lock.now) × (result.1.1.pass.site ≡ lock.now) }
+    requires some { 0 < length passes.old }
+    requires passes { All (IsAdder lock.now) passes.old }
+    ensures count { length passes.new ≡ length passes.old }
+    ensures passes { All (λ p. p.site ≡ lock.now) passes.new }
+{
+    let count = passes.len();
+    for_each_mut(
+        rt,
+        passes,
+        count,
+        &|_, pass: &mut Pass<Tally>|
+            requires { (lock.now.home ≡ 10000000) × IsAdder lock.now pass.old }
+            ensures { pass.new.site ≡ lock.entry.now }
+        { add_each(rt, lock, pass) },
+    );
+}
+
+// The passes, once all have added.
+fn add_all_together<R: Threads + Wait + Sync>(
+    rt: &R,
+    lock: &HistLock<Tally>,
+    mut passes: Vec<Pass<Tally>>,
+) -> Vec<Pass<Tally>>
+    requires most { lock.now.home ≡ 10000000 }
+    requires some { 0 < length passes.items }
+    requires passes { All (IsAdder lock.now) passes.items }
+    ensures count { length result.items ≡ length passes.items }
+    ensures passes { All (λ p. p.site ≡ lock.now) result.items }
+    ensures room { vec_capacity result ≡ vec_capacity passes }
+{
+    add_together(rt, lock, &mut passes);
+    passes
+}
+
+// Waits for half of so many entries, and for all of them. Answers the sum then.
+fn look_on<R: Wait>(
+    rt: &R,
+    lock: &HistLock<Tally>,
+    mut pass: Pass<Tally>,
+    count: u32,
+) -> (u64, Pass<Tally>)
+    requires { pass.site ≡ lock.now }
+    ensures pass { result.1.site ≡ lock.now }
+    ensures long { count ≤ length result.1.seen }
+{
+    lock.await_count(rt, &mut pass, count / 2);
+    lock.await_count(rt, &mut pass, count);
+    let sum = lock.look(rt, &mut pass, Read);
+    (sum, pass)
+}
+
+// All but the last pass add, while the last one looks on.
+fn add_and_look<R: Threads + Wait + Sync>(
+    rt: &R,
+    lock: &HistLock<Tally>,
+    last: Pass<Tally>,
+    passes: Vec<Pass<Tally>>,
+    count: u32,
+) -> ((u64, Pass<Tally>), Vec<Pass<Tally>>)
+    requires most { lock.now.home ≡ 10000000 }
+    requires last { last.site ≡ lock.now }
+    requires some { 0 < length passes.items }
+    requires passes { All (IsAdder lock.now) passes.items }
+    ensures last { result.0.1.site ≡ lock.now }
+    ensures passes { All (λ p. p.site ≡ lock.now) result.1.items }
+    ensures count { length result.1.items ≡ length passes.items }
+    ensures room { vec_capacity result.1 ≡ vec_capacity passes }
 {
     join(
         rt,
-        move || -> (Done, Done)
-            requires { (lock.now.home ≡ 10000000) × MayAdd lock.now one.0.pass one.0.found.items (vec_capacity one.0.found) ×
-                MayAdd lock.now one.1.pass one.1.found.items (vec_capacity one.1.found) }
-            ensures { (result.0.pass.site ≡ lock.entry.now) × (result.1.pass.site ≡ lock.entry.now) }
-        { add_both(rt, lock, one.0, one.1) },
-        move || -> (Done, Done)
-            requires { (lock.now.home ≡ 10000000) × MayAdd lock.now other.0.pass other.0.found.items (vec_capacity other.0.found) ×
-                MayAdd lock.now other.1.pass other.1.found.items (vec_capacity other.1.found) }
-            ensures { (result.0.pass.site ≡ lock.entry.now) × (result.1.pass.site ≡ lock.entry.now) }
-        { add_both(rt, lock, other.0, other.1) },
+        move || -> (u64, Pass<Tally>)
+            requires { last.site ≡ lock.now }
+            ensures { result.1.site ≡ lock.entry.now }
+        { look_on(rt, lock, last, count) },
+        move || -> Vec<Pass<Tally>>
+            requires { (lock.now.home ≡ 10000000) × (0 < length passes.items) × All (IsAdder lock.now) passes.items }
+            ensures { (length result.items ≡ length passes.items) × (vec_capacity result ≡ vec_capacity passes) ×
+                All (λ p. p.site ≡ lock.entry.now) result.items }
+        { add_all_together(rt, lock, passes) },
     )
+}
+
+// Sixteen threads add two thousand times each, while one more waits for what they add. Answers the sum that it then found, and
+// what is there at the end.
+fn sixteen_threads<R: Threads + Wait + Sync>(
+    rt: &R,
+    alloc: Global,
+) -> Result<(u64, u64, Vec<(u32, u32)>), AllocError>
+    ensures { IfOk result (λ r. r.1 ≡ sum_of r.2.items) }
+{
+    let mut quotas = [2000; 17];
+    quotas[16] = 0;
+    let (lock, mut passes) = HistLock::create(alloc, new_tally(), &quotas)?;
+    let Some(last) = passes.pop() else {
+        unreachable!()
+    };
+    let ((found, last), mut passes) = add_and_look(rt, &lock, last, passes, 32000);
+    passes.push_reserved(last);
+    let (object, history) = lock.close(passes);
+    Ok((found, object.sum, history))
 }
 
 // Whether each pass's entries stand in its order.
 fn in_order(history: &[(u32, u32)]) -> bool {
-    let mut counts = [0u32; 4];
+    let mut counts = [0u32; 16];
     for entry in history {
-        let place = (entry.0 % 4) as usize;
+        let place = (entry.0 % 16) as usize;
         let count = counts[place].wrapping_add(1);
         if count > 10000 || amount(entry.0, count) != entry.1 {
             return false;
@@ -176,10 +221,11 @@ fn in_order(history: &[(u32, u32)]) -> bool {
 }
 
 #[test]
-fn four_threads_add(rt: HostRuntime) -> Result<(), Fail> {
-    let (sum, history) = four_threads(&rt, rt.alloc())?;
-    assert_eq!(rt; sum, 55_555_555_000);
-    assert_eq!(rt; history.len(), 40_000);
+fn sixteen_threads_add(rt: HostRuntime) -> Result<(), Fail> {
+    let (found, sum, history) = sixteen_threads(&rt, rt.alloc())?;
+    assert_eq!(rt; found, 26_235_111_000);
+    assert_eq!(rt; sum, 26_235_111_000);
+    assert_eq!(rt; history.len(), 32_000);
     assert!(rt; in_order(history.as_slice()));
     Ok(())
 }

@@ -38,3 +38,21 @@ pub trait Turn<O: Told> {
             O.stands object.new (told h who result.1) ×
             tells self who (O.home object.old) object.old object.new h result.0 result.1 };
 }
+
+/// A turn that does nothing.
+#[derive(Clone, Copy)]
+pub(crate) struct Nothing;
+
+impl<O: Told> Turn<O> for Nothing {
+    ghost use Rattle.std.specs.Prelude.{◌≡◌, None};
+
+    type Out = ();
+
+    ghost can = { λ turn who home history. Unit {0} };
+
+    ghost tells = { λ turn who home before after history out entry. entry ≡ None };
+
+    fn run(self, _who: u32, _object: &mut O) -> ((), Option<O::Entry>) {
+        ((), None)
+    }
+}

@@ -1,6 +1,6 @@
 //! The object: a sum, how many additions it has had, and the most that one may add.
 ghost use Rattle.std.specs.Prelude.{◌≡◌, ℕ, ◌+◌, ◌^◌, ◌<◌, ◌≤◌, [], ◌∷◌, ◌++◌, length, IfOk, vec_capacity};
-ghost use Rattle.hist_lock.specs.Tally.{MayAdd, IsDone};
+ghost use Rattle.hist_lock.specs.Tally.{MayAdd, IsAdder, IsDone};
 
 use crate::{HistLock, Pass, Told, Turn};
 use std::alloc::{AllocError, Global};
@@ -108,6 +108,20 @@ pub fn add_all<R: Wait>(rt: &R, lock: &HistLock<Tally>, done: Done) -> Done
         found.push_reserved(before);
     }
     Done { pass, found }
+}
+
+/// The same for a pass whose answers are not asked for.
+pub fn add_each<R: Wait>(rt: &R, lock: &HistLock<Tally>, pass: &mut Pass<Tally>)
+    requires most { lock.now.home ≡ 10000000 }
+    requires of { IsAdder lock.now pass.old }
+    ensures { pass.new.site ≡ lock.now }
+{
+    let number = pass.number();
+    let mut i = 0;
+    while pass.left() > 0 {
+        i += 1;
+        lock.act(rt, pass, Add(amount(number, i)));
+    }
 }
 
 /// A look by a pass that may make no entry.

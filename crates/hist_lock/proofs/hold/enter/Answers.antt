@@ -3,7 +3,7 @@ use Rattle.hist_lock.specs.declared.rule.Stage.TheVariants.{Called}
 use Rattle.hist_lock.specs.declared.rule.Bounds.{Bounds}
 use Rattle.hist_lock.specs.History.{IsFront, entries_of}
 use Rattle.hist_lock.specs.Rule.{own}
-use Rattle.hist_lock.specs.Steps.{at_stage, took}
+use Rattle.hist_lock.specs.Steps.{at_stage, drew, took}
 use Rattle.hist_lock.proofs.hold.enter.Goals as goal
 
 pub returns-clause-entered : goal.returns-clause-entered
@@ -11,7 +11,7 @@ returns-clause-entered g c =
     let v = c.args.seat.now.me.0 in
     let drawn = c.draw-ticket.ensures.drawn in let called = c.wait_for.ensures.called in let taken = c.take.ensures.taken in
     let held = taken.0 in let found = taken.2 in
-    let before = called ∙ ap (λ m. (at_stage Called m.0, [])) drawn.2 in
+    let before = called ∙ ap (λ m. (at_stage Called m.0, [])) (drawn.2 ∙ ap (λ m. (drew drawn.0 m.0, [])) c.pass_door.ensures.me) in
     let after = taken.1 ∙ ap (λ m. (took held.journal.items m.0, (0, held) ∷ [])) before in
     let view = ap (λ m. m.0) before in
     let front : IsFront (own v).seen held.journal.items = subst (λ w. IsFront (own w).seen held.journal.items) view found.front in
