@@ -1,33 +1,30 @@
 -- A settle of records: each is where its names and its tags are.
-use Rattle.std.proofs.Common.{◌≡◌, ◌≢◌, ℕ, suc, zero, ◌+◌, ◌*◌, ◌/◌, ◌%◌, ◌<◌, ◌==◌, ◌⊎◌, inl, inr, nat_lt, Bool, true, false, cond, List, [], ◌∷◌, length, map, get_or, count_by, Option, Some, None, is_some, is_none, option_map, option_and_then, IfSome, ⊎_elim, sym, ◌∙◌, ap, ap₂, refl, subst, arith}
+use Rattle.std.proofs.Common.{◌≡◌, ℕ, suc, zero, ◌+◌, ◌*◌, ◌<◌, ◌==◌, ◌⊎◌, inl, inr, nat_lt, Bool, true, false, cond, List, [], ◌∷◌, length, map, get_or, Option, Some, None, is_some, is_none, option_map, option_and_then, ⊎_elim, sym, ◌∙◌, ap, refl, subst, arith}
 use Rattle.std.specs.List.{list_any}
-use Rattle.std.proofs.lemmas.Bool.{cases_Bool, cases_lt, both_ways, ltb-true, eqb-true, eq-eqb, cond-true, cond-false}
+use Rattle.std.proofs.lemmas.Bool.{cases_lt, both_ways, ltb-true, cond-true, cond-false}
 use Rattle.std.proofs.lemmas.List.{length-map, get_or_default}
 use Rattle.kmem_buf.specs.declared.owner.Stand.{Stand}
-use Rattle.kmem_buf.specs.declared.owner.Stand.TheVariants.{Movable, Spare, Fixed, Busy, Unknown}
-use Rattle.kmem_buf.specs.Owners.{stand_at}
-use Rattle.kmem_buf.specs.Homes.{Homes}
+use Rattle.kmem_buf.specs.declared.owner.Stand.TheVariants.{Movable, Spare, Fixed, Busy}
 use Rattle.kmem_model.proofs.CacheLists.{get_or-map_default, map-map, map_agree}
 use Rattle.kmem_model.proofs.CacheChoices.{map_says}
 use Rattle.kmem_model.proofs.RecordsValid.{is_the_some, is_the_same, live_within, some_within}
 use Rattle.kmem_model.proofs.Heaps.{leads_somewhere, live_object}
-use Rattle.kmem_model.specs.CacheState.{CacheState, is_out}
+use Rattle.kmem_model.specs.CacheState.{CacheState}
 use Rattle.kmem_model.specs.CacheOrder.{is_the}
-use Rattle.kmem_model.specs.Records.{RecordMap, id_of, held_at, record_at, is_live, name_count, tag_count, IsValid}
-use Rattle.kmem_model.specs.Heap.{Object, HeapState, address_of, hold_at, object_at, record_of, has_record, address_in, IsTied, IsPaired, StandsFor}
+use Rattle.kmem_model.specs.Records.{RecordMap, id_of, held_at, is_live, name_count, tag_count}
+use Rattle.kmem_model.specs.Heap.{Object, HeapState, address_of, object_at, record_of, has_record, address_in, IsTied, StandsFor}
 use Rattle.kmem_model.specs.Says.{answer_about, stage_in, AreInBuffers}
 use Rattle.kmem_model.specs.Settle.{Stage, EndedMove}
 use Rattle.kmem_model.specs.SettleWhole.{IsSettled, IsStuckSlab}
 use Rattle.kmem_model.specs.OneRun.{addresses_moved}
 use Rattle.kmem_model.specs.declared.cache_entry.Said.{Said}
-use Rattle.kmem_answers.specs.Words.{said_of}
-use Rattle.record_heap.specs.View.{HeapView, IsFrame}
-use Rattle.record_heap.specs.Tenants.{TenantState, stand_of, stands_of, tag_of, tags_from, tags_at, tenant_at, tenants_in, tenants_of, MeaningState, HasMeaning}
+use Rattle.record_heap.specs.View.{HeapView}
+use Rattle.record_heap.specs.Tenants.{TenantState, stand_of, stands_of, tag_of, tags_from, tags_at, tenants_in, tenants_of, MeaningState, HasMeaning}
 use Rattle.record_heap.proofs.Tenants.{about_stand, stand_is, tenant_is, many}
 use Rattle.consolidator.specs.Settles.{HeapMoves}
 use Rattle.consolidator.specs.Owned.{Holdings, holdings, has_object, AreOwned, said_about, stage_with, holdings_left, AreAnswered, IsHeldUp, AreSettled}
 use Rattle.consolidator.proofs.Owning.{said_is}
-use Rattle.consolidator.proofs.Followed.{is_kept, IsHoused, housed_left, length_moved}
+use Rattle.consolidator.proofs.Followed.{is_kept, housed_left, length_moved}
 
 -- The stage
 

@@ -1,5 +1,5 @@
 -- What a settle works on, by how the objects stand with their owner.
-use Rattle.std.proofs.Common.{◌≡◌, ℕ, ◌+◌, ◌*◌, ◌/◌, ◌%◌, ◌<◌, ◌&&◌, not, ◌++◌, Bool, true, false, List, [], ◌∷◌, length, map, set, slice_get, Some, ⊎_elim, inl, inr, sym, ◌∙◌, ap, ap₂, refl, arith}
+use Rattle.std.proofs.Common.{◌≡◌, ℕ, ◌+◌, ◌*◌, ◌/◌, ◌%◌, ◌<◌, ◌&&◌, not, ◌++◌, true, false, List, [], ◌∷◌, length, map, set, slice_get, Some, ⊎_elim, inl, inr, sym, ◌∙◌, ap, ap₂, refl, arith}
 use Rattle.std.proofs.lemmas.Bool.{and_parts}
 use Rattle.std.proofs.lemmas.List.{map-set, length-map}
 use Rattle.std.proofs.Math.Nat.{mul_comm}
@@ -15,11 +15,10 @@ use Rattle.kmem_model.proofs.CacheChoices.{is_the_says, partial_within}
 use Rattle.kmem_model.proofs.PlacesKept.{then_some_says}
 use Rattle.kmem_model.proofs.SettleMove.{choice_says}
 use Rattle.kmem_model.specs.CacheState.{CacheState, no_slab, slab_at, is_out_on, is_out, has_pending}
-use Rattle.kmem_model.specs.CacheOrder.{is_the, is_partial, first_partial_free, chosen, free_number, is_idle}
+use Rattle.kmem_model.specs.CacheOrder.{is_the, first_partial_free, chosen, free_number, is_idle}
 use Rattle.kmem_model.specs.CacheEnter.{may_begin, with_move, enter}
 use Rattle.kmem_model.specs.declared.cache_state.PendingMove.{PendingMove}
 use Rattle.kmem_model.specs.declared.cache_entry.CacheEntry.TheVariants.{Begin}
-use Rattle.kmem_model.specs.declared.cache_entry.Said.{Said}
 use Rattle.kmem_model.specs.declared.cache_entry.Said.TheVariants.{No, Later, DontKnow}
 use Rattle.kmem_model.specs.Settle.{EndedMove, said_at, says_after}
 use Rattle.kmem_model.specs.SettleWhole.{IsWhole, IsWholeStage, IsSettled, IsStuckSlab, is_known}

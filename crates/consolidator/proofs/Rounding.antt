@@ -4,7 +4,10 @@ use Rattle.std.specs.List.{flat_map, list_all}
 use Rattle.std.proofs.lemmas.List.{append-nil, length-map}
 use Rattle.std.proofs.lemmas.List.Concat.{flat_map-append}
 use Rattle.std.proofs.lemmas.List.Elements.{All-nil, All-cons, All-head, All-tail, All-append, filter-append}
+use mathlib.Core.Logic.{dite}
+use native.Mathlib.Decide.{ℕ_discrete}
 use Rattle.hist_lock.specs.History.{listed}
+use Rattle.object_cache.specs.declared.tally.Tally.{Tally}
 use Rattle.kmem_model.specs.CacheScans.{is_scan, is_begin, is_idle_entry, scanning, ends_idle, is_round}
 use Rattle.kmem_model.specs.CacheCounts.{moves_begun, moves_ended, total}
 use Rattle.kmem_model.specs.declared.cache_entry.CacheEntry.{CacheEntry}
@@ -16,7 +19,7 @@ use Rattle.move_queue.specs.Queue.{QueueSeatState}
 use Rattle.consolidator.specs.Notes.{Notes, noted_all}
 use Rattle.consolidator.specs.Rounds.{IsEndOf, IsOfMoves, IsOfMover, IsRound, AreRounds}
 use Rattle.consolidator.specs.Works.{HasCarried, Work, HasWorked, Tried, IsTried, entries_of_try, entries_of_scan, HasScanned}
-use Rattle.consolidator.specs.Drives.{reap_room, HasRoom, HasDrained, HasRounds, HasReapedSeat, HasReapedIf, HasDriven, IsWholeDrive}
+use Rattle.consolidator.specs.Drives.{reap_room, HasRoom, HasDrained, HasRounds, ArePaced, HasReapedSeat, HasReapedIf, HasDriven, IsWholeDrive}
 use Rattle.consolidator.proofs.Working.{entered_same, worked_chain}
 use Rattle.consolidator.proofs.Joined.{rounds_whole, scans_whole}
 use Rattle.consolidator.proofs.Counts.{ends_one, ended_is, came_back, one_little, all_little, HasCalmly, carried_calmly}
@@ -391,3 +394,13 @@ reaped_counts false places old new same = record { lent = ap (λ s. s.lent) same
 pub reaped_work : {X : Type 0} (reaps : Bool) (places : ℕ) (old new : Work X) → HasReapedSeat reaps places old.seat new.seat → new.place ≡ old.place → new.notes ≡ old.notes →
     HasReapedIf reaps places old new
 reaped_work reaps places old new reaped place notes = (reaped, works_are new.seat new.place old.place new.notes old.notes place notes)
+
+-- Scans that wait for their shares
+
+module _ {X C : Type 0} (notes : CacheSeatState → Tally → C → Notes) (seen : C → ℕ) (share : ℕ → ℕ) (desperate : Bool) where
+  pub paced_more : (n : ℕ) (old : Work X) → ArePaced notes seen share desperate n old → (before : Work X) (client : C) (tally : Tally) →
+      HasRounds desperate n old before → before.notes ≡ notes before.seat tally client → share n ≤ seen client →
+      ArePaced notes seen share desperate (n + 1) old
+  paced_more n old paced before client tally rounds is waited i lt = dite (ℕ_discrete i n)
+      (λ e. (before, client, tally, subst (λ k. HasRounds desperate k old before) (sym e) rounds, is, subst (λ k. share k ≤ seen client) (sym e) waited))
+      (λ ne. paced i (omega arith))

@@ -18,9 +18,9 @@ use Rattle.kmem_cache.specs.declared.locked.CacheHome.{CacheHome}
 use Rattle.kmem_cache.specs.Calls.{IsOutAfter}
 use Rattle.kmem_cache.specs.Seats.{CacheSite, CacheSeatState, HasActed}
 use Rattle.move_queue.specs.Queue.{QueueSeatState}
-use Rattle.consolidator.specs.Notes.{Notes, verdict_in, noted, noted_all}
+use Rattle.consolidator.specs.Notes.{notes_by, Notes, verdict_in, noted, noted_all}
 use Rattle.consolidator.specs.Rounds.{IsOfMover}
-use Rattle.consolidator.specs.Works.{HasEntered, HasQueued, HasFinished, Work, HasWorked}
+use Rattle.consolidator.specs.Works.{work_by, HasEntered, HasQueued, HasFinished, Work, HasWorked}
 
 pub verdict_said : (v : Verdict) → verdict_in (said_of v) ≡ v
 verdict_said verdict.Yes = refl
@@ -40,6 +40,15 @@ pub notes_are : (n m : Notes) → n.lent ≡ m.lent → n.returned ≡ m.returne
 notes_are n m lent returned tally flags last answered brought fetched =
     parts_are n.lent m.lent n.returned m.returned n.tally m.tally n.flags m.flags n.last m.last n.answered m.answered n.brought m.brought n.fetched m.fetched
     lent returned tally flags last answered brought fetched
+
+-- a client of whose answers nothing has changed leaves the work as it was
+pub work_waited : {C X : Type 0} (flags : C → Flags) (last : C → Option Verdict) (answered brought fetched : C → ℕ) (seat : CacheSeatState) (place : QueueSeatState X) (tally : Tally)
+    (old new : C) → flags new ≡ flags old → last new ≡ last old → answered new ≡ answered old → brought new ≡ brought old → fetched new ≡ fetched old →
+    work_by flags last answered brought fetched seat place tally new ≡ work_by flags last answered brought fetched seat place tally old
+work_waited {X = X} flags last answered brought fetched seat place tally old new same_flags same_last same_answered same_brought same_fetched =
+    let notes = notes_by flags last answered brought fetched seat tally in
+    let put : Notes → Work X = λ n. record { seat = seat; place = place; notes = n } in
+    ap put (notes_are (notes new) (notes old) refl refl refl same_flags same_last same_answered same_brought same_fetched)
 
 pub noted_append : (es fs : List CacheEntry) (n : Notes) → noted_all (es ++ fs) n ≡ noted_all fs (noted_all es n)
 noted_append [] fs n = refl

@@ -1,10 +1,12 @@
 -- What a mover does in a whole run (this project's own).
-use Rattle.std.specs.Prelude.{◌≡◌, ℕ, zero, suc, ◌+◌, ◌*◌, ◌^◌, ◌≤◌, Bool, true, false, List, [], length, filter, replicate, All, if◌then◌else◌}
+use Rattle.std.specs.Prelude.{◌≡◌, ℕ, zero, suc, ◌+◌, ◌*◌, ◌^◌, ◌<◌, ◌≤◌, Bool, true, false, List, [], length, filter, replicate, All, if◌then◌else◌}
 use Rattle.kmem_model.specs.CacheScans.{is_scan, scanning, has_rounds}
 use Rattle.kmem_model.specs.declared.cache_entry.CacheEntry.{CacheEntry}
 use Rattle.kmem_model.specs.declared.cache_entry.CacheEntry.TheVariants.{Scan}
+use Rattle.object_cache.specs.declared.tally.Tally.{Tally}
 use Rattle.kmem_cache.specs.Reaping.{HasReaped}
 use Rattle.kmem_cache.specs.Seats.{CacheSeatState}
+use Rattle.consolidator.specs.Notes.{Notes}
 use Rattle.consolidator.specs.Rounds.{AreRounds, IsOfMoves}
 use Rattle.consolidator.specs.Works.{Work, HasWorked}
 
@@ -42,6 +44,13 @@ module _ {X : Type 0} where
     pub worked : HasWorked old new entries
     pub moves : All IsOfMoves entries
     pub rounds : AreRounds desperate scans entries
+
+  -- Just before each of so many scans, when those before it and their rounds were made, there was a client of this work that had seen
+  -- the share of that scan
+  abbrev pub ArePaced : {C : Type 0} → (CacheSeatState → Tally → C → Notes) → (C → ℕ) → (ℕ → ℕ) → Bool → ℕ → Work X → Type 0
+  ArePaced {C} notes seen share desperate scans old =
+      (i : ℕ) → i < scans → (before : Work X) × (client : C) × (tally : Tally) × HasRounds desperate i old before
+      × (before.notes ≡ notes before.seat tally client) × (share i ≤ seen client)
 
   -- the same of a mover's work
   abbrev pub HasReapedIf : Bool → ℕ → Work X → Work X → Type 0

@@ -3,10 +3,12 @@
 ghost use Rattle.std.specs.Prelude.{◌≡◌, ◌+◌, ◌*◌, ◌<◌, ◌≤◌, ◌^◌, ℕ, length, true};
 ghost use Rattle.kmem_cache.specs.Seats.{buffers_at, IsCacheSeat};
 ghost use Rattle.move_queue.specs.Queue.{IsQueueSeat};
+ghost use Rattle.consolidator.specs.Notes.{notes_by};
 ghost use Rattle.consolidator.specs.Works.{work_by, AreKept, CountsGiven, IsBalanced};
-ghost use Rattle.consolidator.specs.Drives.{reap_room, HasRoom, HasDrained, HasRounds, HasReapedSeat, HasDriven, IsWholeDrive};
+ghost use Rattle.consolidator.specs.Drives.{reap_room, HasRoom, HasDrained, HasRounds, ArePaced, HasReapedSeat, HasDriven, IsWholeDrive};
 
 use crate::carrying::carry;
+use crate::pace::Pace;
 use crate::scanning::scan;
 use kmem_buf::{Kind, MoveClient};
 use kmem_cache::{Cache, CacheSeat};
@@ -83,10 +85,30 @@ fn scan_and_drain<K: Kind, C: MoveClient<K>, R: Wait>(
     drain(rt, cache, seat, queue, place, client, tally);
 }
 
-// Makes so many scans of the plan, beginning with its first.
-fn make_scans<K: Kind, C: MoveClient<K>, R: Wait, G: Gate>(
+// Waits for the share of the scan, and calls the gate.
+fn come_up_to<K: Kind, C: MoveClient<K>, P: Pace<K, C>, R: Wait, G: Gate>(
     rt: &R,
     gate: &G,
+    pace: &P,
+    client: &mut C,
+    mover: u32,
+    scan: u32,
+)
+    ensures seen { P.share pace.now scan ≤ P.seen client.new }
+    ensures stays { (C.home client.new ≡ C.home client.old) × (C.sign client.new ≡ C.sign client.old) }
+    ensures same { (C.flags client.new ≡ C.flags client.old) × (C.last client.new ≡ C.last client.old) ×
+        (C.answered client.new ≡ C.answered client.old) × (C.brought client.new ≡ C.brought client.old) ×
+        (C.fetched client.new ≡ C.fetched client.old) }
+{
+    pace.await_share(rt, client, scan);
+    gate.before(mover, scan);
+}
+
+// Makes so many scans of the plan, beginning with its first, each once its share of the commands is carried out.
+fn make_scans<K: Kind, C: MoveClient<K>, P: Pace<K, C>, R: Wait, G: Gate>(
+    rt: &R,
+    gate: &G,
+    pace: &P,
     cache: &Cache<K>,
     seat: &mut CacheSeat<K>,
     queue: &MoveQueue<K>,
@@ -104,6 +126,9 @@ fn make_scans<K: Kind, C: MoveClient<K>, R: Wait, G: Gate>(
     requires numbers { plan.now.first + 2 * count < 2 ^ 32 }
     ensures rounds { let now = work_by C.flags C.last C.answered C.brought C.fetched in
         HasRounds plan.now.desperate count (now seat.old place.old tally.old client.old) (now seat.new place.new tally.new client.new) }
+    ensures paced { let now = work_by C.flags C.last C.answered C.brought C.fetched in
+        ArePaced (notes_by C.flags C.last C.answered C.brought C.fetched) P.seen (λ i. P.share pace.now (plan.now.first + 2 * i))
+        plan.now.desperate count (now seat.old place.old tally.old client.old) }
     ensures room { let now = work_by C.flags C.last C.answered C.brought C.fetched in (scans others : ℕ) →
         HasRoom queue.now.terms.quotas (scans + count) others (now seat.old place.old tally.old client.old) →
         HasRoom queue.now.terms.quotas scans others (now seat.new place.new tally.new client.new) }
@@ -111,7 +136,7 @@ fn make_scans<K: Kind, C: MoveClient<K>, R: Wait, G: Gate>(
     ensures stays { (C.home client.new ≡ C.home client.old) × (C.sign client.new ≡ C.sign client.old) }
 {
     for i in 0..count {
-        gate.before(plan.mover, plan.first + 2 * i);
+        come_up_to(rt, gate, pace, client, plan.mover, plan.first + 2 * i);
         scan_and_drain(rt, cache, seat, queue, place, client, plan.desperate, tally);
     }
 }
@@ -128,11 +153,13 @@ fn reap_if<K: Kind, R: Wait>(rt: &R, cache: &Cache<K>, seat: &mut CacheSeat<K>, 
     }
 }
 
-/// All that a mover does in a run. Before each of its scans it calls the gate, by its own number and the scan's; it scans; and after that
-/// it carries until no job comes. Before its last scan it reaps full magazines, if it is to. Without a scan it carries until no job comes.
-pub fn drive<K: Kind, C: MoveClient<K>, R: Wait, G: Gate>(
+/// All that a mover does in a run. Before each of its scans it waits until the scan's share of the commands is carried out, and calls
+/// the gate, by its own number and the scan's; it scans; and after that it carries until no job comes. Before its last scan it reaps
+/// full magazines, if it is to. Without a scan it carries until no job comes.
+pub fn drive<K: Kind, C: MoveClient<K>, P: Pace<K, C>, R: Wait, G: Gate>(
     rt: &R,
     gate: &G,
+    pace: &P,
     cache: &Cache<K>,
     seat: &mut CacheSeat<K>,
     queue: &MoveQueue<K>,
@@ -154,6 +181,9 @@ pub fn drive<K: Kind, C: MoveClient<K>, R: Wait, G: Gate>(
     ensures whole { let now = work_by C.flags C.last C.answered C.brought C.fetched in
         IsWholeDrive plan.now.desperate plan.now.scans (now seat.old place.old tally.old client.old)
         (now seat.new place.new tally.new client.new) }
+    ensures paced { let now = work_by C.flags C.last C.answered C.brought C.fetched in
+        ArePaced (notes_by C.flags C.last C.answered C.brought C.fetched) P.seen (λ i. P.share pace.now (plan.now.first + 2 * i))
+        plan.now.desperate plan.now.scans (now seat.old place.old tally.old client.old) }
     ensures few { length place.new.popped ≤ queue.now.terms.quotas }
     ensures of { IsCacheSeat cache.now seat.new × IsQueueSeat queue.now place.new }
     ensures stays { (C.home client.new ≡ C.home client.old) × (C.sign client.new ≡ C.sign client.old) }
@@ -168,9 +198,9 @@ pub fn drive<K: Kind, C: MoveClient<K>, R: Wait, G: Gate>(
     }
     let before = plan.scans - 1;
     make_scans(
-        rt, gate, cache, seat, queue, place, client, plan, before, tally,
+        rt, gate, pace, cache, seat, queue, place, client, plan, before, tally,
     );
-    gate.before(plan.mover, plan.first + 2 * before);
+    come_up_to(rt, gate, pace, client, plan.mover, plan.first + 2 * before);
     reap_if(rt, cache, seat, plan.reaps);
     scan_and_drain(rt, cache, seat, queue, place, client, plan.desperate, tally);
 }

@@ -4,6 +4,7 @@
 mod carrying;
 mod driving;
 mod laws;
+mod pace;
 mod records;
 mod scanning;
 mod scans;
@@ -12,6 +13,7 @@ mod tally;
 pub use carrying::carry;
 pub use driving::{MoverPlan, drive};
 pub use laws::{law_notes, law_tally};
+pub use pace::Pace;
 pub use records::settle_records;
 pub use scanning::scan;
 pub use scans::settle;

@@ -14,7 +14,7 @@ use Rattle.kmem_model.specs.RecordStep.{step}
 use Rattle.kmem_model.specs.History.{worker_of, is_refusal, map_after, IsRight, IsLegalHistory}
 use Rattle.kmem_model.proofs.Legal.{legal-append, step_no_refusal}
 use Rattle.kmem_model.specs.declared.record_entry.RecordEntry.{RecordEntry}
-use Rattle.hist_lock.specs.Passes.{PassState, Site, IsTurn}
+use Rattle.hist_lock.specs.Passes.{PassState, Site, IsTurn, HasAwaited}
 use Rattle.hist_lock.specs.History.{told, IsFront, entries_of}
 use Rattle.record_heap.specs.View.{HoldState}
 use Rattle.record_heap.specs.declared.heap.put.Offer.{Offer}
@@ -135,6 +135,20 @@ front_same xs = ([], append-nil xs)
 
 pub front_on : (xs ys zs : List (ℕ × RecordEntry)) → IsFront xs ys → IsFront ys zs → IsFront xs zs
 front_on xs ys zs f g = (f.0 ++ g.0, sym (append_assoc xs f.0 g.0) ∙ (ap (λ ws. ws ++ g.0) f.1 ∙ g.1))
+
+-- who waited for a count has looked
+pub awaited_on : (count : ℕ) (old new : PassState RecordEntry TableHome) → HasAwaited IsStandingFor home_of count old new → HasLooked old new
+awaited_on count old new w =
+    let legal = w.stood.0.legal in let met = w.met in
+    record {
+      front = met.front;
+      exact = met.exact;
+      legal = subst (λ (home : TableHome). IsLegalHistory (no_records home.names home.workers) new.seen) w.stood.1 legal;
+      mine = w.mine;
+      left = w.left;
+      site = w.site;
+      number = w.number;
+    }
 
 pub looked_on_more : (a b c : PassState RecordEntry TableHome) → HasLooked a b → HasLooked b c → HasLooked a c
 looked_on_more a b c f g =

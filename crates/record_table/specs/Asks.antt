@@ -1,5 +1,5 @@
 -- What a mover's question comes to (this project's own).
-use Rattle.std.specs.Prelude.{◌≡◌, ◌≢◌, ℕ, ◌<◌, ◌≤◌, Bool, true, false, List, [], Option, Some, None, is_some, refl, unwrap_or}
+use Rattle.std.specs.Prelude.{◌≡◌, ◌≢◌, ℕ, ◌<◌, ◌≤◌, Bool, true, false, List, [], Option, Some, None, is_some, length, refl, unwrap_or}
 use Rattle.std.specs.Coded.{Coded, code_by, coded×, coded_ℕ}
 use Rattle.kmem_buf.specs.Answers.{Flags, verdict_of}
 use Rattle.kmem_buf.specs.declared.client.Answer.{Answer}
@@ -92,6 +92,12 @@ pub record HasAsked (old new : PassState RecordEntry TableHome) (seat seat' : Ma
   pub home : seat'.home ≡ seat.home
   pub unknown : verdict_of answer ≡ DontKnow → seat'.last ≡ Some (from, false)
   pub known : verdict_of answer ≢ DontKnow → WasAnswered new from answer
+
+-- the mover waited until the table's history had so many entries, and has then seen a legal one that has; nothing else changed
+pub record HasAwaitedCommands (count : ℕ) (old new : MoverState) : Type 0 where
+  pub looked : HasLooked old.pass new.pass
+  pub long : count ≤ length new.pass.seen
+  pub same : new ≡ record old { pass = new.pass }
 
 -- nothing was answered so far
 pub record IsAsking (old new : PassState RecordEntry TableHome) (seat seat' : MarkSeatState) : Type 0 where

@@ -8,7 +8,7 @@ ghost use Rattle.hist_lock.specs.History.{entries_of};
 ghost use Rattle.record_heap.specs.View.{IsBlankBuffer};
 ghost use Rattle.record_table.specs.Shares.{counted_on};
 ghost use Rattle.record_table.specs.Turns.{IsShareAsk};
-ghost use Rattle.record_table.specs.Asks.{IsMoverOf, HasAsked};
+ghost use Rattle.record_table.specs.Asks.{IsMoverOf, HasAsked, HasAwaitedCommands};
 
 use crate::records::{Asked, Records};
 use crate::shares::Share;
@@ -120,6 +120,15 @@ impl RecordTable {
             }
         }
         unreachable!()
+    }
+
+    /// Comes back once the sessions have carried out so many commands together; the mover has then seen them. It sleeps until then,
+    /// and makes one turn at the end.
+    pub fn await_count<R: Wait>(&self, rt: &R, mover: &mut Mover, count: u32)
+        requires of { IsMoverOf self.now mover.old }
+        ensures { HasAwaitedCommands count mover.old mover.new }
+    {
+        self.lock.await_count(rt, &mut mover.pass, count);
     }
 
     /// Answers whether the object of the number can move to the buffer, and moves it where the answer is yes. One load where the word

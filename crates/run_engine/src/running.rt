@@ -1,6 +1,6 @@
 //! All threads of a run.
 
-ghost use Rattle.std.specs.Prelude.{◌≡◌, ◌+◌, ◌<◌, ℕ, All, length, map};
+ghost use Rattle.std.specs.Prelude.{◌≡◌, ◌+◌, ◌<◌, ◌≤◌, ℕ, All, length, map};
 ghost use Rattle.kmem_cache.specs.Seats.{buffers_at};
 ghost use Rattle.run_engine.specs.Opened.{IsShared, IsReadyCrew, IsStarting, IsWaiting, pass_of};
 ghost use Rattle.run_engine.specs.Quotas.{IsInPlan, first_plan, second_plan};
@@ -11,7 +11,7 @@ use crate::plan::RunPlan;
 use crate::shared::Shared;
 use kmem_io::Gate;
 use kmem_text::Line;
-use run_movers::{MoverTask, run_movers};
+use run_movers::{MoverTask, Shares, run_movers};
 use run_workers::{Worker, run_workers};
 use std::sync::Wait;
 use std::thread::{Threads, join};
@@ -35,25 +35,31 @@ fn worked<R: Threads + Wait + Sync, G: Gate>(
     workers
 }
 
-// Both movers, once they have gone by their plans.
+// Both movers, once they have gone by their plans, with their scans spread over so many commands.
 fn moved<R: Threads + Wait + Sync, G: Gate>(
     rt: &R,
     gate: &G,
     plan: &RunPlan,
+    commands: usize,
     shared: &Shared,
     first: MoverTask,
     second: MoverTask,
 ) -> (MoverTask, MoverTask)
+    requires few { commands ≤ 100000 }
     requires shared { (names : ℕ) × IsShared plan.now names shared.now }
     requires first { IsWaiting shared.now plan.now.workers (first_plan plan.now) first }
     requires second { IsWaiting shared.now (plan.now.workers + 1) (second_plan plan.now) second }
     ensures first { IsMoverDone shared.now plan.now.workers (first_plan plan.now) result.0 }
     ensures second { IsMoverDone shared.now (plan.now.workers + 1) (second_plan plan.now) result.1 }
 {
-    let _ = plan;
+    let shares = Shares {
+        commands: commands as u32,
+        scans: plan.scans,
+    };
     run_movers(
         rt,
         gate,
+        &shares,
         &shared.table,
         &shared.cache,
         &shared.queue,
@@ -63,6 +69,7 @@ fn moved<R: Threads + Wait + Sync, G: Gate>(
 }
 
 /// Lets all workers carry out their commands while the movers make their scans, each in a thread of its own where one can be started.
+/// Else the workers come first, since movers wait for commands and no worker waits for a mover.
 pub fn run_all<R: Threads + Wait + Sync, G: Gate>(
     rt: &R,
     gate: &G,
@@ -72,6 +79,7 @@ pub fn run_all<R: Threads + Wait + Sync, G: Gate>(
     crew: Crew,
 ) -> Crew
     requires plan { IsInPlan plan.now }
+    requires few { length lines.now ≤ 100000 }
     requires shared { (names : ℕ) × IsShared plan.now names shared.now }
     requires ready { IsReadyCrew plan.now lines.now shared.now crew }
     ensures done { IsCrewDone plan.now lines.now shared.now result }
@@ -81,6 +89,7 @@ pub fn run_all<R: Threads + Wait + Sync, G: Gate>(
         first,
         second,
     } = crew;
+    let commands = lines.len();
     let (workers, (first, second)) = join(
         rt,
         move || -> Vec<Worker>
@@ -89,11 +98,11 @@ pub fn run_all<R: Threads + Wait + Sync, G: Gate>(
             ensures { All (IsWorkerDone shared.entry.now lines.entry.now) result.items × (map pass_of result.items ≡ map pass_of workers.items) }
         { worked(rt, gate, lines, shared, workers) },
         move || -> (MoverTask, MoverTask)
-            requires { ((names : ℕ) × IsShared plan.now names shared.now) × IsWaiting shared.now plan.now.workers (first_plan plan.now) first ×
+            requires { (commands ≤ 100000) × ((names : ℕ) × IsShared plan.now names shared.now) × IsWaiting shared.now plan.now.workers (first_plan plan.now) first ×
                 IsWaiting shared.now (plan.now.workers + 1) (second_plan plan.now) second }
             ensures { IsMoverDone shared.entry.now plan.entry.now.workers (first_plan plan.entry.now) result.0 ×
                 IsMoverDone shared.entry.now (plan.entry.now.workers + 1) (second_plan plan.entry.now) result.1 }
-        { moved(rt, gate, plan, shared, first, second) },
+        { moved(rt, gate, plan, commands, shared, first, second) },
     );
     Crew {
         workers,

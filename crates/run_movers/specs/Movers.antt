@@ -1,20 +1,23 @@
 -- A mover before it begins, and once it has made its scans and carried its jobs (this project's own).
-use Rattle.std.specs.Prelude.{◌≡◌, ◌+◌, ◌*◌, ◌<◌, ◌≤◌, ◌^◌, true, [], All, length, filter, replicate}
+use Rattle.std.specs.Prelude.{◌≡◌, ℕ, ◌+◌, ◌*◌, ◌/◌, min, ◌<◌, ◌≤◌, ◌^◌, true, [], All, length, filter, replicate}
 use Rattle.kmem_model.specs.CacheCounts.{moves_begun, moves_ended, total}
 use Rattle.kmem_model.specs.CacheScans.{is_begin, is_scan, scanning, has_rounds}
 use Rattle.kmem_model.specs.Heap.{Object}
 use Rattle.kmem_model.specs.Report.{counted_in, ends_in}
 use Rattle.kmem_model.specs.declared.cache_entry.CacheEntry.TheVariants.{Scan}
 use Rattle.hist_lock.specs.Passes.{Site}
-use Rattle.kmem_cache.specs.Seats.{CacheSite, IsCacheSeat}
+use Rattle.object_cache.specs.declared.tally.Tally.{Tally}
+use Rattle.kmem_cache.specs.Seats.{CacheSite, CacheSeatState, IsCacheSeat}
 use Rattle.move_queue.specs.Queue.{QueueState, IsQueueSeat}
 use Rattle.record_table.specs.Tables.{TableHome}
-use Rattle.record_table.specs.Asks.{IsMoverOf, IsFreshMover}
-use Rattle.consolidator.specs.Drives.{reap_room, HasDriven}
+use Rattle.record_table.specs.Asks.{MoverState, IsMoverOf, IsFreshMover}
+use Rattle.consolidator.specs.Drives.{reap_room, ArePaced, HasDriven}
+use Rattle.consolidator.specs.Notes.{Notes, notes_by}
 use Rattle.consolidator.specs.Rounds.{IsOfMover}
 use Rattle.consolidator.specs.Tallies.{tally_of, ends_of}
 use Rattle.consolidator.specs.Works.{Work, CountsGiven}
 use Rattle.run_movers.specs.declared.mover.MoverTask.{MoverTask}
+use Rattle.run_movers.specs.declared.shares.Shares.{Shares}
 
 -- nothing was done with its seats and its mover, and there is room for all its scans, and for the jobs of all pushes
 pub record IsReadyMover (table : Site TableHome) (cache : CacheSite) (queue : QueueState) (t : MoverTask) : Type 0 where
@@ -47,6 +50,20 @@ work_of t =
         fetched = t.mover.share.fetched;
       };
     }
+
+-- how many commands are carried out before this scan begins: its share of them, and no more than there are
+abbrev pub share_of : Shares → ℕ → ℕ
+share_of shares scan = min (scan * shares.commands / (shares.scans + 1)) shares.commands
+
+-- what is noted of a mover with this cache seat and tally
+abbrev pub notes_of : CacheSeatState → Tally → MoverState → Notes
+notes_of seat tally mover =
+    notes_by (λ (m : MoverState). m.flags) (λ m. m.last) (λ m. m.answered) (λ m. m.share.brought) (λ m. m.share.fetched) seat tally mover
+
+-- just before each of its scans it had seen the scan's share of the commands carried out
+abbrev pub IsPaced : Shares → MoverTask → Type 0
+IsPaced shares t =
+    ArePaced notes_of (λ m. length m.pass.seen) (λ i. share_of shares (t.plan.first + 2 * i)) t.plan.desperate t.plan.scans (work_of t)
 
 -- what its scans and jobs have come to
 pub record HasMoved (table : Site TableHome) (cache : CacheSite) (queue : QueueState) (old new : MoverTask) : Type 0 where

@@ -4,7 +4,9 @@
 mod laws;
 mod mover;
 mod pair;
+mod shares;
 
 pub use laws::law_movers;
 pub use mover::MoverTask;
 pub use pair::run_movers;
+pub use shares::Shares;

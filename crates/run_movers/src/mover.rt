@@ -2,8 +2,9 @@
 
 ghost use Rattle.std.specs.Prelude.{◌≡◌};
 ghost use Rattle.kmem_cache.specs.Seats.{buffers_at};
-ghost use Rattle.run_movers.specs.Movers.{IsReadyMover, HasMoved};
+ghost use Rattle.run_movers.specs.Movers.{IsReadyMover, HasMoved, IsPaced};
 
+use crate::shares::Shares;
 use consolidator::{MoverPlan, drive, law_notes};
 use kmem_cache::{Cache, CacheSeat};
 use kmem_io::Gate;
@@ -24,11 +25,13 @@ pub struct MoverTask {
 }
 
 impl MoverTask {
-    /// Makes all its scans, and after each carries jobs until none comes. The gate is called before each scan, with the mover's number and the scan's.
+    /// Makes all its scans, each once its share of the commands is carried out, and after each carries jobs until none comes. The gate
+    /// is called before each scan, with the mover's number and the scan's.
     pub fn carry_out<R: Wait, G: Gate>(
         &mut self,
         rt: &R,
         gate: &G,
+        shares: &Shares,
         table: &RecordTable,
         cache: &Cache<RecordKind>,
         queue: &MoveQueue<RecordKind>,
@@ -36,6 +39,7 @@ impl MoverTask {
         requires homes { (buffers_at cache.now ≡ table.now.home.cache) × (queue.now.terms.home ≡ buffers_at cache.now) }
         requires ready { IsReadyMover table.now cache.now queue.now self.old }
         ensures moved { HasMoved table.now cache.now queue.now self.old self.new }
+        ensures paced { IsPaced shares.now self.old }
     {
         law_notes();
         let mut asker = Asker {
@@ -45,6 +49,7 @@ impl MoverTask {
         drive(
             rt,
             gate,
+            shares,
             cache,
             &mut self.seat,
             queue,

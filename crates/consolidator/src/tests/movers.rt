@@ -6,7 +6,7 @@ ghost use Rattle.magazine.specs.Ready.{IsReady};
 ghost use Rattle.kmem_cache.specs.Opening.{IsAsMade};
 ghost use Rattle.kmem_cache.specs.Seats.{buffers_at};
 
-use crate::{MoverPlan, carry, drive, no_moves, scan};
+use crate::{MoverPlan, Pace, carry, drive, no_moves, scan};
 use kmem_buf::{Answer, Buf, Home, MoveClient, Verdict};
 use kmem_cache::{Cache, CacheLog, CacheSeat};
 use kmem_io::Gate;
@@ -174,6 +174,17 @@ impl MoveClient<RecordKind> for Keeper {
     }
 }
 
+// Nothing is waited for.
+struct AtOnce;
+
+impl Pace<RecordKind, Keeper> for AtOnce {
+    ghost share = { λ _ _. 0 };
+
+    ghost seen = { λ _. 0 };
+
+    fn await_share<R: Wait>(&self, _rt: &R, _client: &mut Keeper, _scan: u32) {}
+}
+
 // A shared cache with a worker's seat and a mover's, the queue of moves with the mover's seat, and the client.
 #[derive(Drop)]
 struct Shop {
@@ -323,6 +334,7 @@ impl Shop {
         drive(
             rt,
             &Open,
+            &AtOnce,
             &self.cache,
             &mut self.seat,
             &self.queue,

@@ -17,7 +17,7 @@ use Rattle.object_cache.specs.declared.cache.BeginRefused.{BeginRefused}
 use Rattle.object_cache.specs.declared.cache.BeginRefused.TheVariants.{Idle, NoMemory}
 use Rattle.object_cache.specs.declared.tally.Tally.{Tally}
 use Rattle.consolidator.specs.Tallies.{counted}
-use Rattle.consolidator.specs.Owned.{Holdings, holdings, holdings_after, stage_with, ScansWith}
+use Rattle.consolidator.specs.Owned.{holdings, holdings_after, stage_with, ScansWith}
 use Rattle.consolidator.proofs.Within.{IsOnScan}
 use Rattle.consolidator.proofs.Owning.{said_is, known_within, begun_empty}
 use Rattle.consolidator.proofs.Turns.{same_from, same_to, on_scan_more, ends_same, scans_to, legal_idle, or_true}

@@ -4,7 +4,7 @@ use Rattle.kmem_model.specs.Settle.{Course, with_scan}
 use Rattle.kmem_model.specs.SettleWhole.{IsWholeStage, IsSettled, enough}
 use Rattle.kmem_model.specs.SettleTurns.{IsScanOn}
 use Rattle.kmem_model.specs.SettleMeasure.{settled}
-use Rattle.consolidator.specs.Owned.{Holdings, holdings, stage_with, SettlesWith}
+use Rattle.consolidator.specs.Owned.{holdings, stage_with, SettlesWith}
 use Rattle.consolidator.proofs.Owning.{stage_whole, stage_owned, settled_with}
 use Rattle.consolidator.proofs.Turns.{counted_on, answered_on, left_on, done_is}
 use Rattle.consolidator.proofs.scans.settle.Given.{Over}

@@ -38,4 +38,5 @@ returns g c =
         place_of = c.drive.ensures.of.1;
         same = (refl, whole.worked.entered.number, ap (λ s. s.number) stays);
       };
+      paced = λ i lt. let at = c.drive.ensures.paced i lt in (at.0, at.1.mover.now, at.2, at.3, at.4, at.5);
     }
