@@ -1,10 +1,11 @@
 /* A peak of objects of 256 bytes and what stays of it.
  *
- *     peak run NAME LOAD COUNT LEFT SEED            allocates, frees all but LEFT, has the allocator NAME give memory back, and prints the pages that it keeps
+ *     peak run NAME LOAD COUNT LEFT SEED            the allocator NAME carries the load out, and the pages that it keeps are printed
  *     peak script LOAD COUNT LEFT SEED FIXED        the same as commands for `kmemrun one`, with FIXED of those that are left fixed
  *     peak replies LOAD COUNT LEFT SEED FIXED       the replies that those commands have to get
  *
- * COUNT objects are allocated one behind another, and all but LEFT, which are drawn from the seed, are freed in a drawn order. Then, by LOAD:
+ * COUNT objects are allocated one behind another, and all but LEFT, which are drawn from the seed, are freed in a drawn order. The allocator is asked to give
+ * memory back, there and once more at the end. Between, by LOAD:
  *     still       nothing
  *     turn-B      eight times over each one that is left is freed and a new one allocated, B at a time, in a drawn order
  *     copy-B      each one that is left is copied to a new one and then freed, B at a time, in a drawn order
@@ -122,40 +123,6 @@ static uint32_t copied(uint32_t old)
     return number;
 }
 
-static void carry_out(const char *load, uint32_t count)
-{
-    uint32_t batch = 0, fresh = 0;
-    bool turn = sscanf(load, "turn-%u", &batch) == 1, copy = sscanf(load, "copy-%u", &batch) == 1;
-    if (!(turn || copy ? batch > 0 && left % batch == 0 : strcmp(load, "still") == 0))
-        stop("LOAD is still, turn-B or copy-B, where B divides LEFT");
-    for (uint32_t i = 0; i < count; i++)
-        living[i] = make(fresh++);
-    shuffle(living, count);
-    for (uint32_t i = left; i < count; i++)
-        drop(living[i]);
-    for (uint32_t round = 0; turn && round < TURNS; round++) {
-        shuffle(living, left);
-        for (uint32_t at = 0; at < left; at += batch) {
-            for (uint32_t i = at; i < at + batch; i++)
-                drop(living[i]);
-            for (uint32_t i = at; i < at + batch; i++)
-                living[i] = make(fresh++);
-        }
-    }
-    if (copy) {
-        uint32_t *old = living + left; /* those places are free by now */
-        shuffle(living, left);
-        for (uint32_t at = 0; at < left; at += batch) {
-            memcpy(old, living + at, batch * sizeof *old);
-            for (uint32_t i = 0; i < batch; i++)
-                living[at + i] = copied(old[i]);
-            for (uint32_t i = 0; i < batch; i++)
-                drop(old[i]);
-        }
-    }
-    shuffle(living, left);
-}
-
 /* The pages of this process that are its own and not given back. It allocates nothing. */
 static long kept_pages(void)
 {
@@ -173,23 +140,26 @@ static long kept_pages(void)
 }
 
 /* The symbol, which has to be of the library that malloc is of. */
-static void *found(const char *name)
+static void *found(const char *symbol)
 {
     Dl_info of_malloc, of_it;
-    void *it = dlsym(RTLD_DEFAULT, name), *allocates = dlsym(RTLD_DEFAULT, "malloc");
+    void *it = dlsym(RTLD_DEFAULT, symbol), *allocates = dlsym(RTLD_DEFAULT, "malloc");
     if (!it || !allocates || !dladdr(it, &of_it) || !dladdr(allocates, &of_malloc) || of_it.dli_fbase != of_malloc.dli_fbase) {
-        fprintf(stderr, "peak: malloc is of no library that has %s\n", name);
+        fprintf(stderr, "peak: malloc is of no library that has %s\n", symbol);
         exit(1);
     }
     return it;
 }
 
+static const char *name; /* of the allocator */
+static char version[64] = "unknown";
+
 typedef int Control(const char *, void *, size_t *, void *, size_t);
 
 /* Has the allocator give back what it can, in the way that it has for that, and writes its version where it tells one. */
-static void give_back(const char *name, char *version, size_t size)
+static void give_back(void)
 {
-    snprintf(version, size, "unknown");
+    size_t size = sizeof version;
     if (strcmp(name, "glibc") == 0) {
         ((int (*)(size_t))found("malloc_trim"))(0);
         snprintf(version, size, "%s", ((const char *(*)(void))found("gnu_get_libc_version"))());
@@ -223,6 +193,42 @@ static void give_back(const char *name, char *version, size_t size)
     }
 }
 
+static void carry_out(const char *load, uint32_t count)
+{
+    uint32_t batch = 0, fresh = 0;
+    bool turn = sscanf(load, "turn-%u", &batch) == 1, copy = sscanf(load, "copy-%u", &batch) == 1;
+    if (!(turn || copy ? batch > 0 && left % batch == 0 : strcmp(load, "still") == 0))
+        stop("LOAD is still, turn-B or copy-B, where B divides LEFT");
+    for (uint32_t i = 0; i < count; i++)
+        living[i] = make(fresh++);
+    shuffle(living, count);
+    for (uint32_t i = left; i < count; i++)
+        drop(living[i]);
+    if (mode == RUN)
+        give_back();
+    for (uint32_t round = 0; turn && round < TURNS; round++) {
+        shuffle(living, left);
+        for (uint32_t at = 0; at < left; at += batch) {
+            for (uint32_t i = at; i < at + batch; i++)
+                drop(living[i]);
+            for (uint32_t i = at; i < at + batch; i++)
+                living[i] = make(fresh++);
+        }
+    }
+    if (copy) {
+        uint32_t *old = living + left; /* those places are free by now */
+        shuffle(living, left);
+        for (uint32_t at = 0; at < left; at += batch) {
+            memcpy(old, living + at, batch * sizeof *old);
+            for (uint32_t i = 0; i < batch; i++)
+                living[at + i] = copied(old[i]);
+            for (uint32_t i = 0; i < batch; i++)
+                drop(old[i]);
+        }
+    }
+    shuffle(living, left);
+}
+
 static int by_number(const void *a, const void *b)
 {
     uintptr_t left = *(const uintptr_t *)a, right = *(const uintptr_t *)b;
@@ -244,14 +250,13 @@ static uint32_t pages_under(void)
     return different;
 }
 
-static void run(const char *name, const char *load, uint32_t count)
+static void run(const char *load, uint32_t count)
 {
-    char version[64];
     prctl(PR_SET_THP_DISABLE, 1, 0, 0, 0);
     free(malloc(SIZE));
     long before = kept_pages();
     carry_out(load, count);
-    give_back(name, version, sizeof version);
+    give_back();
     long after = kept_pages();
     for (uint32_t i = 0; i < left; i++)
         compare(living[i]);
@@ -272,8 +277,9 @@ int main(int words, char **word)
     object = pages_for(MOST * sizeof *object);
     content = pages_for(MOST * sizeof *content);
     living = pages_for(MOST * sizeof *living);
+    name = word[2];
     if (mode == RUN)
-        run(word[2], rest[0], count);
+        run(rest[0], count);
     else
         carry_out(rest[0], count);
     for (uint32_t i = 0; i < fixed; i++)
