@@ -184,7 +184,7 @@ fn is_move(entry: &CacheEntry) -> bool {
 // Whether it is a read by a tag that found what was put.
 fn is_read(entry: &RecordEntry) -> bool {
     match (entry.command, entry.reply) {
-        (Command::Read(_), Reply::Val(value)) => value.as_bytes() == b"v",
+        (Command::Read(_), Reply::Val(value)) => value.as_bytes() == b"v".as_slice(),
         _ => false,
     }
 }
