@@ -90,19 +90,20 @@ pub fn run_all<R: Threads + Wait + Sync, G: Gate>(
         second,
     } = crew;
     let commands = lines.len();
-    let (workers, (first, second)) = join(
+    // Where no thread can be started, the second comes before the first.
+    let ((first, second), workers) = join(
         rt,
-        move || -> Vec<Worker>
-            requires { (buffers_at shared.now.cache ≡ shared.now.table.home.cache) × (0 < length workers.items) ×
-                All (IsStarting shared.now lines.now) workers.items }
-            ensures { All (IsWorkerDone shared.entry.now lines.entry.now) result.items × (map pass_of result.items ≡ map pass_of workers.items) }
-        { worked(rt, gate, lines, shared, workers) },
         move || -> (MoverTask, MoverTask)
             requires { (commands ≤ 100000) × ((names : ℕ) × IsShared plan.now names shared.now) × IsWaiting shared.now plan.now.workers (first_plan plan.now) first ×
                 IsWaiting shared.now (plan.now.workers + 1) (second_plan plan.now) second }
             ensures { IsMoverDone shared.entry.now plan.entry.now.workers (first_plan plan.entry.now) result.0 ×
                 IsMoverDone shared.entry.now (plan.entry.now.workers + 1) (second_plan plan.entry.now) result.1 }
         { moved(rt, gate, plan, commands, shared, first, second) },
+        move || -> Vec<Worker>
+            requires { (buffers_at shared.now.cache ≡ shared.now.table.home.cache) × (0 < length workers.items) ×
+                All (IsStarting shared.now lines.now) workers.items }
+            ensures { All (IsWorkerDone shared.entry.now lines.entry.now) result.items × (map pass_of result.items ≡ map pass_of workers.items) }
+        { worked(rt, gate, lines, shared, workers) },
     );
     Crew {
         workers,
