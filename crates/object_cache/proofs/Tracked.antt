@@ -24,7 +24,7 @@ none_of_move b zero = refl
 none_of_move b (suc n) = none_of_move b n
 
 pub start : (stubs : List StubState) (limit buffers : ℕ) → length stubs ≡ limit → AreUnissued stubs → limit < 2 ^ 32 →
-    AreTracked stubs (replicate limit None) (replicate buffers false) (replicate buffers false) 0
+    AreTracked stubs (replicate limit None) (replicate buffers false) 0
 unfolding no_moves
 start stubs limit buffers as_many free few =
     record {
@@ -37,10 +37,13 @@ start stubs limit buffers as_many free few =
           subst (IsWithin (length (replicate buffers false)))
           (sym (get_or-replicate limit j None None (omega (arith, below, length-replicate {A = Option PendingMove} limit None)))) tt;
       counted = none_counted limit;
-      as_many = refl;
-      left_out = λ b.
-          or_false (get_or (replicate buffers false) b false) ∙ ap (λ c. get_or (replicate buffers false) b false || c) (sym (none_of_move b limit));
     }
+
+-- nothing is left out where no buffer was asked about and no move is pending
+pub none_out : (limit buffers b : ℕ) → get_or (replicate buffers false) b false ≡ is_left_out_of (replicate buffers false) (replicate limit None) b
+unfolding no_moves
+none_out limit buffers b =
+    or_false (get_or (replicate buffers false) b false) ∙ ap (λ c. get_or (replicate buffers false) b false || c) (sym (none_of_move b limit))
 
 -- what an issued stub with a move's facts says of its place
 pub stub_says : (j : ℕ) (stub : StubState) (o : Option PendingMove) (n from to : ℕ) → IsStubOf j stub o → stub.issued ≡ true →
@@ -54,7 +57,7 @@ pub within_at : (buffers : ℕ) (o : Option PendingMove) (from to : ℕ) → o �
     (from < buffers) × (to < buffers)
 within_at buffers o from to e within = subst (IsWithin buffers) e within
 
-module _ (stubs : List StubState) (pending : List (Option PendingMove)) (asked skip : List Bool) (count : ℕ) (kept : AreTracked stubs pending asked skip count) (slot : ℕ) (low : slot < length pending) where
+module _ (stubs : List StubState) (pending : List (Option PendingMove)) (asked : List Bool) (count : ℕ) (kept : AreTracked stubs pending asked count) (slot : ℕ) (low : slot < length pending) where
   -- the stubs beside a place that changes
   stubs-set : (stub : StubState) (o : Option PendingMove) → IsStubOf slot stub o → (j : ℕ) (d : StubState) → j < length (set pending slot o) →
       IsStubOf j (get_or (set stubs slot stub) j d) (get_or (set pending slot o) j None)
@@ -116,8 +119,7 @@ module _ (stubs : List StubState) (pending : List (Option PendingMove)) (asked s
   -- a move begins
   pub begun : (stub : StubState) (from to : ℕ) → get_or pending slot None ≡ None → from < length asked → to < length asked →
       stub.issued ≡ true → stub.facts ≡ slot ∷ from ∷ to ∷ [] →
-      AreTracked (set stubs slot stub) (set pending slot (Some (record { from = from; to = to }))) (set (set asked from true) to true)
-      (set (set skip from true) to true) (count + 1)
+      AreTracked (set stubs slot stub) (set pending slot (Some (record { from = from; to = to }))) (set (set asked from true) to true) (count + 1)
   begun stub from to free one other issued facts =
       let m : PendingMove = record { from = from; to = to } in
       let size : length (set (set asked from true) to true) ≡ length asked = length-set (set asked from true) to true ∙ length-set asked from true in
@@ -128,14 +130,34 @@ module _ (stubs : List StubState) (pending : List (Option PendingMove)) (asked s
         within = within-set (length (set (set asked from true) to true)) (Some m) size (omega (arith, one, size), omega (arith, other, size));
         counted =
             omega (arith, kept.counted, count-set is_some pending slot (Some m) None low, ap {B = ℕ} (λ o. cond (is_some o) 1 0) free);
-        as_many = length-set (set skip from true) to true ∙ (length-set skip from true ∙ (kept.as_many ∙ sym size));
-        left_out = λ b.
-            two_set skip from to b (omega (arith, one, kept.as_many)) (omega (arith, other, kept.as_many))
-            ∙ (ap (λ t. t || (from == b || to == b)) (kept.left_out b)
-            ∙ (twice (get_or asked b false) (list_any (is_of_move b) pending) (from == b || to == b)
-            ∙ ap₂ (λ (s t : Bool). s || t) (sym (two_set asked from to b one other))
-            (sym (any-set_more (is_of_move b) pending slot (Some m) None low (ap (is_of_move b) free)))));
       }
+
+  -- a move ends
+  pub ended : (stub : StubState) (m : PendingMove) → get_or pending slot None ≡ Some m → stub.issued ≡ false →
+      AreTracked (set stubs slot stub) (set pending slot None) asked (count - 1)
+  ended stub m was free =
+      record {
+        size = sizes-set stub None;
+        few = omega (arith, kept.few, length-set {A = Option PendingMove} pending slot None);
+        issued = stubs-set stub None free;
+        within = within-set (length asked) None refl tt;
+        counted =
+            omega (arith, kept.counted, count-set is_some pending slot None None low, ap {B = ℕ} (λ o. cond (is_some o) 1 0) was);
+      }
+
+-- what a scan leaves out, once a move has begun, and once it has ended
+module _ (asked skip : List Bool) (pending : List (Option PendingMove)) (slot : ℕ) (low : slot < length pending) (size : length skip ≡ length asked)
+    (told : (b : ℕ) → get_or skip b false ≡ is_left_out_of asked pending b) where
+  pub out_begun : (from to : ℕ) → get_or pending slot None ≡ None → from < length asked → to < length asked →
+      (b : ℕ) → get_or (set (set skip from true) to true) b false
+      ≡ is_left_out_of (set (set asked from true) to true) (set pending slot (Some (record { from = from; to = to }))) b
+  out_begun from to free one other b =
+      let m : PendingMove = record { from = from; to = to } in
+      two_set skip from to b (omega (arith, one, size)) (omega (arith, other, size))
+      ∙ (ap (λ t. t || (from == b || to == b)) (told b)
+      ∙ (twice (get_or asked b false) (list_any (is_of_move b) pending) (from == b || to == b)
+      ∙ ap₂ (λ (s t : Bool). s || t) (sym (two_set asked from to b one other))
+      (sym (any-set_more (is_of_move b) pending slot (Some m) None low (ap (is_of_move b) free)))))
     where
       twice : (a y t : Bool) → ((a || y) || t) ≡ ((a || t) || (y || t))
       twice true y t = refl
@@ -144,44 +166,31 @@ module _ (stubs : List StubState) (pending : List (Option PendingMove)) (asked s
       twice false false true = refl
       twice false false false = refl
 
-  -- a move ends
-  pub ended : (stub : StubState) (from to : ℕ) → get_or pending slot None ≡ Some (record { from = from; to = to }) → stub.issued ≡ false →
+  pub out_ended : (from to : ℕ) → get_or pending slot None ≡ Some (record { from = from; to = to }) → from < length asked → to < length asked →
       (one other : Bool) → one ≡ is_left_out_of asked (set pending slot None) from → other ≡ is_left_out_of asked (set pending slot None) to →
-      AreTracked (set stubs slot stub) (set pending slot None) asked (set (set skip from one) to other) (count - 1)
-  ended stub from to was free one other first second =
-      let m : PendingMove = record { from = from; to = to } in
-      let within = within_at (length asked) (get_or pending slot None) from to was (kept.within slot low) in
-      record {
-        size = sizes-set stub None;
-        few = omega (arith, kept.few, length-set {A = Option PendingMove} pending slot None);
-        issued = stubs-set stub None free;
-        within = within-set (length asked) None refl tt;
-        counted =
-            omega (arith, kept.counted, count-set is_some pending slot None None low, ap {B = ℕ} (λ o. cond (is_some o) 1 0) was);
-        as_many = length-set (set skip from one) to other ∙ (length-set skip from one ∙ kept.as_many);
-        left_out = λ b.
-            ⊎_elim
-            (λ same.
-            ap (λ n. get_or (set (set skip from one) to other) n false) same
-            ∙ (get_or-set_same (set skip from one) to other false (omega (arith, within.1, length-set skip from one, kept.as_many))
-            ∙ (second ∙ ap (is_left_out_of asked (set pending slot None)) (sym same))))
-            (λ apart.
-            get_or-set_other (set skip from one) to b other false apart
-            ∙ ⊎_elim
-            (λ same.
-            ap (λ n. get_or (set skip from one) n false) same
-            ∙ (get_or-set_same skip from one false (omega (arith, within.0, kept.as_many))
-            ∙ (first ∙ ap (is_left_out_of asked (set pending slot None)) (sym same))))
-            (λ far.
-            get_or-set_other skip from b one false far
-            ∙ (kept.left_out b
-            ∙ ap (λ t. get_or asked b false || t)
-            (sym
-            (any-set_same (is_of_move b) pending slot None None
-            (sym (ap (is_of_move b) was ∙ ap₂ (λ (s t : Bool). s || t) (ne_eqb from b (λ e. far (sym e))) (ne_eqb to b (λ e. apart (sym e)))))))))
-            (cases_eq b from))
-            (cases_eq b to);
-      }
+      (b : ℕ) → get_or (set (set skip from one) to other) b false ≡ is_left_out_of asked (set pending slot None) b
+  out_ended from to was below inside one other first second b =
+      ⊎_elim
+      (λ same.
+      ap (λ n. get_or (set (set skip from one) to other) n false) same
+      ∙ (get_or-set_same (set skip from one) to other false (omega (arith, inside, length-set skip from one, size))
+      ∙ (second ∙ ap (is_left_out_of asked (set pending slot None)) (sym same))))
+      (λ apart.
+      get_or-set_other (set skip from one) to b other false apart
+      ∙ ⊎_elim
+      (λ same.
+      ap (λ n. get_or (set skip from one) n false) same
+      ∙ (get_or-set_same skip from one false (omega (arith, below, size))
+      ∙ (first ∙ ap (is_left_out_of asked (set pending slot None)) (sym same))))
+      (λ far.
+      get_or-set_other skip from b one false far
+      ∙ (told b
+      ∙ ap (λ t. get_or asked b false || t)
+      (sym
+      (any-set_same (is_of_move b) pending slot None None
+      (sym (ap (is_of_move b) was ∙ ap₂ (λ (s t : Bool). s || t) (ne_eqb from b (λ e. far (sym e))) (ne_eqb to b (λ e. apart (sym e)))))))))
+      (cases_eq b from))
+      (cases_eq b to)
 
 pub unasked : (bs : List Bool) (b : ℕ) → get_or (map (λ (x : Bool). false) bs) b false ≡ false
 unasked [] b = refl
@@ -189,19 +198,15 @@ unasked (x ∷ bs) zero = refl
 unasked (x ∷ bs) (suc b) = unasked bs b
 
 -- no buffer counts as asked about any more
-pub anew : (stubs : List StubState) (pending : List (Option PendingMove)) (asked skip fresh left : List Bool) (count : ℕ) → AreTracked stubs pending asked skip count →
-    fresh ≡ map (λ (b : Bool). false) asked → length left ≡ length skip → ((b : ℕ) → get_or left b false ≡ list_any (is_of_move b) pending) →
-    AreTracked stubs pending fresh left count
-anew stubs pending asked skip fresh left count kept is as_many flags =
-    let size : length fresh ≡ length asked = ap (λ (bs : List Bool). length bs) is ∙ length-map asked (λ (b : Bool). false) in
+pub anew : (stubs : List StubState) (pending : List (Option PendingMove)) (asked fresh : List Bool) (count : ℕ) → AreTracked stubs pending asked count →
+    fresh ≡ map (λ (b : Bool). false) asked → AreTracked stubs pending fresh count
+anew stubs pending asked fresh count kept is =
     record {
       size = kept.size;
       few = kept.few;
       issued = kept.issued;
-      within = subst (λ n. AreWithin n pending) (sym size) kept.within;
+      within = subst (λ n. AreWithin n pending) (sym (ap (λ (bs : List Bool). length bs) is ∙ length-map asked (λ (b : Bool). false))) kept.within;
       counted = kept.counted;
-      as_many = as_many ∙ (kept.as_many ∙ sym size);
-      left_out = λ b. flags b ∙ ap (λ (f : Bool). f || list_any (is_of_move b) pending) (sym (ap (λ (bs : List Bool). get_or bs b false) is ∙ unasked asked b));
     }
 
 -- one buffer less counts as asked about
@@ -237,3 +242,10 @@ none_asked pending asked old size none =
 pub asked_within : (asked : List Bool) (i : ℕ) → get_or asked i false ≡ true → i < length asked
 asked_within asked i given =
     ⊎_elim (λ low. low) (λ past. absurd (both_ways (get_or asked i false) (get_or_past asked i false past) given)) (cases_lt i (length asked))
+
+-- a place at which a move is pending is one of them
+pub pending_within : (pending : List (Option PendingMove)) (slot : ℕ) (m : PendingMove) → get_or pending slot None ≡ Some m → slot < length pending
+pending_within pending slot m was =
+    ⊎_elim (λ low. low)
+    (λ past. absurd (both_ways (is_some (get_or pending slot None)) (ap is_some (get_or_past pending slot None past)) (ap is_some was)))
+    (cases_lt slot (length pending))

@@ -83,14 +83,12 @@ abbrev pub is_left_out_of : List Bool → List (Option PendingMove) → ℕ → 
 is_left_out_of asked pending b = slice_index_or asked b false || list_any (is_of_move b) pending
 
 -- what always holds of the fields
-pub record AreTracked (stubs : List StubState) (pending : List (Option PendingMove)) (asked skip : List Bool) (count : ℕ) : Type 0 where
+pub record AreTracked (stubs : List StubState) (pending : List (Option PendingMove)) (asked : List Bool) (count : ℕ) : Type 0 where
   pub size : length stubs ≡ length pending
   pub few : length pending < 2 ^ 32
   pub issued : (j : ℕ) (d : StubState) → j < length pending → IsStubOf j (slice_index_or stubs j d) (slice_index_or pending j None)
   pub within : AreWithin (length asked) pending
   pub counted : count ≡ count_by is_some pending
-  pub as_many : length skip ≡ length asked
-  pub left_out : (b : ℕ) → slice_index_or skip b false ≡ is_left_out_of asked pending b
 
 -- the set has exactly the numbers whose flag is set
 pub record IsNoted (flags : List Bool) (noted : SetState) : Type 0 where

@@ -1,4 +1,4 @@
-//! The pending moves of a cache, with the stubs of all moves, and the buffers that a scan leaves out.
+//! The pending moves of a cache, with the stubs of all moves, and the buffers that were asked about.
 ghost use Rattle.std.specs.Prelude.{◌≡◌, ◌≤◌, ◌<◌, ℕ, Some, true, false, None, length, count_by, is_some, is_none, map, replicate, slice_set, slice_index_or, IfOk};
 ghost use Rattle.std.specs.List.{list_any};
 ghost use Rattle.kmem_buf.specs.Homes.{stub_homes};
@@ -6,6 +6,7 @@ ghost use Rattle.kmem_model.specs.CacheOrder.{is_of_move, least_below};
 ghost use Rattle.object_cache.specs.Moves.{IsMoveOf, IsPending, is_left_out_of};
 
 use crate::asked::Asked;
+use crate::stock::Stock;
 use kmem_buf::{Buffer, Kind, Slip, Stub};
 use kmem_model::{PendingMove, law_order};
 use std::alloc::{AllocError, Global};
@@ -125,8 +126,6 @@ pub struct Moves {
     pending: Vec<Option<PendingMove>>,
     count: u32,
     asked: Asked,
-    // Buffers that were asked about in this scan, and those of pending moves.
-    skip: Vec<bool>,
 }
 
 impl Model for Moves {
@@ -137,7 +136,7 @@ impl Model for Moves {
 
     ghost view = { λ m. record { asked = m.asked; pending = m.pending.items; stubs = stub_homes m.stubs.items } };
 
-    ghost invariant = { λ m. AreTracked m.stubs.items m.pending.items m.asked m.skip.items m.count };
+    ghost invariant = { λ m. AreTracked m.stubs.items m.pending.items m.asked m.count };
 }
 
 impl Moves {
@@ -153,7 +152,6 @@ impl Moves {
             pending: Vec::from_elem(alloc, None, limit as usize)?,
             count: 0,
             asked: Asked::create(alloc, buffers)?,
-            skip: Vec::from_elem(alloc, false, buffers as usize)?,
         })
     }
 
@@ -192,19 +190,25 @@ impl Moves {
         None
     }
 
-    /// For each buffer, whether it was asked about in this scan or is of a pending move.
-    pub fn skip(&self) -> &[bool]
-        ensures len { length result.now ≡ length self.now.asked }
-        ensures left_out { (b : ℕ) → slice_index_or result.now b false ≡ is_left_out_of self.now.asked self.now.pending b }
+    /// Whether the buffer was asked about in this scan, or is of a pending move.
+    pub fn is_left_out(&self, number: u32) -> bool
+        requires { number < length self.now.asked }
+        ensures { result ≡ is_left_out_of self.now.asked self.now.pending number }
     {
-        &self.skip
+        self.asked.has(number) || is_of_any(&self.pending, number)
     }
 
-    /// No buffer counts as asked about any more.
-    pub fn ask_anew(&mut self)
-        ensures { self.new ≡ record self.old { asked = map (λ _. false) self.old.asked } }
+    /// No buffer counts as asked about any more, so that a scan leaves out those of pending moves alone.
+    pub fn ask_anew<K: Kind>(&mut self, stock: &mut Stock<K>)
+        requires size { length self.old.asked ≡ length stock.old.cells }
+        requires skips { length stock.old.skip ≡ length stock.old.cells }
+        requires left_out { (b : ℕ) → slice_index_or stock.old.skip b false ≡ is_left_out_of self.old.asked self.old.pending b }
+        ensures moves { self.new ≡ record self.old { asked = map (λ _. false) self.old.asked } }
+        ensures stock { stock.new ≡ record stock.old { skip = stock.new.skip } }
+        ensures skips { length stock.new.skip ≡ length stock.old.skip }
+        ensures left_out { (b : ℕ) → slice_index_or stock.new.skip b false ≡ list_any (is_of_move b) self.old.pending }
     {
-        ask_none(&mut self.asked, &mut self.skip, &self.pending);
+        ask_none(&mut self.asked, stock, &self.pending);
     }
 
     /// The move of this number is pending from then on. Both of its buffers count as asked about.
@@ -221,8 +225,6 @@ impl Moves {
     {
         self.asked.ask(from);
         self.asked.ask(to);
-        self.skip[from as usize] = true;
-        self.skip[to as usize] = true;
         self.pending[number as usize] = Some(PendingMove { from, to });
         self.count += 1;
         let stub = &mut self.stubs[number as usize];
@@ -251,12 +253,13 @@ impl Moves {
     pub fn end(&mut self, pending: Pending)
         requires { IsMoveOf self.old.stubs pending }
         ensures was { IsPending self.old.pending pending }
+        ensures buffers { (pending.from < length self.old.asked) × (pending.to < length self.old.asked) }
         ensures moves { self.new ≡ record self.old { pending = slice_set self.old.pending pending.slot None } }
     {
         let Pending {
             no: _,
-            from,
-            to,
+            from: _,
+            to: _,
             slot,
             slip,
         } = pending;
@@ -264,31 +267,23 @@ impl Moves {
         stub.redeem(slip);
         self.pending[slot as usize] = None;
         self.count -= 1;
-        self.skip[from as usize] = is_left_out(&self.asked, &self.pending, from);
-        self.skip[to as usize] = is_left_out(&self.asked, &self.pending, to);
     }
 }
 
-// No buffer counts as asked about any more, so that those of pending moves alone are skipped.
-fn ask_none(asked: &mut Asked, skip: &mut [bool], pending: &[Option<PendingMove>])
-    requires size { length skip.old ≡ length asked.old }
-    requires left_out { (b : ℕ) → slice_index_or skip.old b false ≡ is_left_out_of asked.old pending.now b }
+// No buffer counts as asked about any more, so that those of pending moves alone are left out.
+fn ask_none<K: Kind>(asked: &mut Asked, stock: &mut Stock<K>, pending: &[Option<PendingMove>])
+    requires size { length asked.old ≡ length stock.old.cells }
+    requires skips { length stock.old.skip ≡ length stock.old.cells }
+    requires left_out { (b : ℕ) → slice_index_or stock.old.skip b false ≡ is_left_out_of asked.old pending.now b }
     ensures asked { asked.new ≡ map (λ _. false) asked.old }
-    ensures len { length skip.new ≡ length skip.old }
-    ensures flags { (b : ℕ) → slice_index_or skip.new b false ≡ list_any (is_of_move b) pending.now }
+    ensures stock { stock.new ≡ record stock.old { skip = stock.new.skip } }
+    ensures skips { length stock.new.skip ≡ length stock.old.skip }
+    ensures flags { (b : ℕ) → slice_index_or stock.new.skip b false ≡ list_any (is_of_move b) pending.now }
 {
     while let Some(number) = asked.least() {
         asked.forget(number);
-        skip[number as usize] = is_of_any(pending, number);
+        stock.leave_out(number, is_of_any(pending, number));
     }
-}
-
-// Whether the buffer was asked about, or is the old or the new one of a pending move.
-fn is_left_out(asked: &Asked, pending: &[Option<PendingMove>], number: u32) -> bool
-    requires { number < length asked.now }
-    ensures { result ≡ is_left_out_of asked.now pending.now number }
-{
-    asked.has(number) || is_of_any(pending, number)
 }
 
 // Whether the buffer is the old or the new one of a pending move.

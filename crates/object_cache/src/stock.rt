@@ -1,11 +1,11 @@
 //! The slabs of a cache, with the source that they come from.
-ghost use Rattle.std.specs.Prelude.{◌≡◌, ◌≤◌, ◌<◌, ◌*◌, ◌/◌, ◌%◌, ℕ, true, false, Some, None, nat_lt, length, replicate, IfOk, IfSome, IsNone, All, map};
+ghost use Rattle.std.specs.Prelude.{◌≡◌, ◌≤◌, ◌<◌, ◌*◌, ◌/◌, ◌%◌, ℕ, true, false, Some, None, nat_lt, length, replicate, IfOk, IfSome, IsNone, All, map, slice_set, slice_index_or};
 ghost use Rattle.std.specs.FinSet as set;
 ghost use Rattle.kmem_buf.specs.Homes.{IsBufferOf};
 ghost use Rattle.kmem_model.specs.CacheState.{slab_at, slab_in_source, is_listed, free_buffers};
-ghost use Rattle.kmem_model.specs.CacheOrder.{wanted, first_partial, first_partial_free};
+ghost use Rattle.kmem_model.specs.CacheOrder.{wanted, first_partial, first_partial_free, last_reclaimable};
 ghost use Rattle.kmem_model.specs.CacheEnter.{is_full, slab_taken, slab_freed, slab_listed, slab_answered, slab_given_back, unmarked};
-ghost use Rattle.slab_list.specs.Slabs.{IsFree, is_out_in, on_slab, on_buffer, fresh_slab};
+ghost use Rattle.slab_list.specs.Slabs.{IsFree, is_out_in, on_slab, on_buffer, fresh_slab, mode_of};
 ghost use Rattle.kmem_answers.specs.Words.{said_of};
 ghost use Rattle.object_cache.specs.Stock.{bare, AreHeld, OthersAreUsed, IsStocked, IsRoom, emptied_to, slab_closed};
 
@@ -72,6 +72,7 @@ impl<K: Kind> Stock<K> {
         ensures slabs { IfOk result (λ s. s.slabs ≡ replicate slabs (slab_in_source chunks)) }
         ensures chunks { IfOk result (λ s. s.chunks ≡ chunks) }
         ensures cells { IfOk result (λ s. length s.cells ≡ slabs * chunks) }
+        ensures skip { IfOk result (λ s. s.skip ≡ replicate (slabs * chunks) false) }
     {
         let list = SlabList::create(alloc, slabs, chunks)?;
         Ok(Stock { list, supply })
@@ -102,6 +103,30 @@ impl<K: Kind> Stock<K> {
     {
         law_order();
         self.list.first_free_on(first)
+    }
+
+    /// The buffer that a scan asks about next, where the first partial slab was found already: see the list's.
+    pub fn last_reclaimable(
+        &mut self,
+        first: Option<u32>,
+        numer: u32,
+        desperate: bool,
+    ) -> Option<u32>
+        requires first { first ≡ first_partial self.old.slabs }
+        ensures choice { result ≡ last_reclaimable self.old.chunks numer (mode_of desperate)
+            (λ b. slice_index_or self.old.skip b false) self.old.slabs }
+        ensures out { IfSome result (λ b. (b < length self.old.cells) × (is_out_in self.old b ≡ true)) }
+        ensures list { self.new ≡ self.old }
+    {
+        self.list.last_reclaimable(first, numer, desperate)
+    }
+
+    /// A scan leaves the buffer out from then on, or doesn't.
+    pub fn leave_out(&mut self, number: u32, left_out: bool)
+        requires { number < length self.old.cells }
+        ensures { self.new ≡ record self.old { skip = slice_set self.old.skip number left_out } }
+    {
+        self.list.leave_out(number, left_out);
     }
 
     /// Where the buffer lies that is taken next, if one is free.

@@ -5,7 +5,7 @@ use Rattle.std.proofs.lemmas.List.{get_or-set_same, get_or-set_other, get_or_pas
 use Rattle.std.proofs.lemmas.List.Sums.{sum_by-set, sum_by-le, count_by-le-length, get_or-le-sum_by}
 use Rattle.std.proofs.lemmas.List.Folds.{sum_by-replicate}
 use Rattle.number_set.specs.Sets.{has}
-use Rattle.kmem_model.specs.CacheState.{SlabState, slab_at, no_slab, slab_in_source, is_listed, is_dead, used}
+use Rattle.kmem_model.specs.CacheState.{SlabState, slab_at, no_slab, slab_in_source, is_listed, is_dead, is_out_on, used}
 use Rattle.kmem_model.specs.CacheOrder.{is_the}
 use Rattle.kmem_model.specs.CacheEnter.{unmarked}
 use Rattle.slab_list.specs.Slabs.{is_unused, ListState, IsListWhole, IsSlab}
@@ -14,9 +14,13 @@ use Rattle.slab_list.specs.declared.index.Index.{Index}
 use Rattle.kmem_model.specs.CacheState.{is_same_standing}
 use Rattle.kmem_model.specs.declared.cache_state.Standing.TheVariants.{Listed, Dead}
 use Rattle.number_set.specs.Sets.{SetState}
+use Rattle.number_set.specs.Places.{IsLastBelow}
+use Rattle.slab_list.specs.Bins.{IsSpent, IsLastUnspent}
+use Rattle.std.proofs.lemmas.Nat.{div-mul-add}
+use Rattle.slab_list.proofs.Steps.{out_within}
 use Rattle.slab_list.specs.Bins.{bin_at}
 use Rattle.slab_list.specs.declared.line.Line.{Line}
-use Rattle.slab_list.proofs.Binned.{but, left, entered, length-with_place, levels-with_place}
+use Rattle.slab_list.proofs.Binned.{but, left, entered, length-with_place, levels-with_place, still_standing, elsewhere, put_there}
 
 -- the bins of all slabs but one are those with that one in the source
 pub but_is : (chunks : ℕ) (slabs : List SlabState) (i : ℕ) → i < length slabs → (j : ℕ) →
@@ -57,15 +61,20 @@ few_out s whole narrow few =
     )
 
 -- slabs of the source alone
-pub index_empty : (n chunks : ℕ) (x : Index) → n ≤ 4096 → chunks ≤ 64 → IsEmptyIndex x → IsIndexOf chunks (replicate n (slab_in_source chunks)) x
-index_empty n chunks x few narrow e =
+pub index_empty : (n chunks : ℕ) (skip : List Bool) (x : Index) → n ≤ 4096 → chunks ≤ 64 → length skip ≡ n * chunks → IsEmptyIndex x →
+    IsIndexOf chunks (replicate n (slab_in_source chunks)) skip x
+index_empty n chunks skip x few narrow as_many e =
     let slabs : List SlabState = replicate n (slab_in_source chunks) in
     record {
       narrow = narrow;
       few = omega (arith, few, length-replicate n (slab_in_source chunks));
       tall = e.tall;
       room = e.room;
+      wide = e.wide;
       notes = e.notes;
+      as_many = as_many ∙ ap (λ m. m * chunks) (sym (length-replicate n (slab_in_source chunks)));
+      standing = λ p given. absurd (both_ways (has x.unspent p) (e.unspent p) given);
+      spent = λ p given. absurd (both_ways (has x.places p) (e.places p) given);
       places = λ p. e.places p ∙ sym (at (λ slab. is_the (bin_of chunks slab) (p / 4096) ≡ false) refl refl (p % 4096));
       noted = λ i. e.noted i ∙ sym (at (λ slab. has_note slab ≡ false) refl refl i);
       listed = e.counts.0 ∙ sym (sum_by-replicate (λ slab. cond (is_listed slab) 1 0) n (slab_in_source chunks) ∙ mul-zero n);
@@ -83,6 +92,11 @@ index_empty n chunks x few narrow e =
         (λ (below : i < n). subst P (sym (get_or-replicate n i (slab_in_source chunks) no_slab below)) here)
         (λ over. subst P (sym (get_or_past (replicate n (slab_in_source chunks)) i no_slab (omega (arith, over, length-replicate n (slab_in_source chunks))))) past)
         (cases_lt i n)
+
+-- no buffer of a slab that was taken out is out
+nothing_out : (slabs : List SlabState) (i j : ℕ) → i < length slabs → is_out_on (slab_at (set slabs i no_slab) i) j ≡ true → ⊥
+nothing_out slabs i j below out =
+    both_ways (is_out_on no_slab j) refl (ap (λ slab. is_out_on slab j) (sym (get_or-set_same slabs i no_slab no_slab below)) ∙ out)
 
 pub set_twice : (slabs : List SlabState) (i : ℕ) (x y : SlabState) → set (set slabs i x) i y ≡ set slabs i y
 set_twice [] i x y = refl
@@ -134,20 +148,35 @@ module _ (chunks : ℕ) (slabs : List SlabState) (x : Index) (i : ℕ) (below : 
   out_part = omega (arith, t.used, get_or-le-sum_by used slabs i no_slab below)
 
   module _ (bin : Option ℕ) (is : bin ≡ bin_at chunks line.standing line.used (is_some line.stuck)) (small : IfSome bin (λ b. b < 130))
-      (places noted : SetState) (listed unused dead out : ℕ) where
-    pub leaves : IsIndexOf chunks slabs x → places ≡ with_place x.places bin i false → noted ≡ record x.noted { flags = set x.noted.flags i false } →
+      (places unspent noted : SetState) (skip : List Bool) (listed unused dead out : ℕ) where
+    pub leaves : IsIndexOf chunks slabs skip x → places ≡ with_place x.places bin i false → unspent ≡ with_place x.unspent bin i false → noted ≡ record x.noted { flags = set x.noted.flags i false } →
         listed ≡ x.listed - one (is_same_standing Listed line.standing) →
         unused ≡ x.unused - one (is_same_standing Listed line.standing && line.used == 0) →
         dead ≡ x.dead - one (is_same_standing Dead line.standing) → out ≡ x.out - line.used →
-        IsIndexOf chunks (set slabs i no_slab) (record { places = places; noted = noted; listed = listed; unused = unused; dead = dead; out = out })
-    leaves k ep en el eu ed eo =
+        IsIndexOf chunks (set slabs i no_slab) skip
+        (record { places = places; unspent = unspent; noted = noted; listed = listed; unused = unused; dead = dead; out = out })
+    leaves k ep eq en el eu ed eo =
         let low : i < 4096 = omega (arith, below, k.few) in
         record {
           narrow = k.narrow;
           few = omega (arith, k.few, length-set slabs i no_slab);
           tall = ap (λ s. s.levels) ep ∙ (levels-with_place x.places bin i false ∙ k.tall);
           room = omega (arith, k.room, ap {A = SetState} {B = ℕ} (λ s. length s.flags) ep, length-with_place x.places bin i false);
+          wide = omega (arith, k.wide, ap {A = SetState} {B = ℕ} (λ s. length s.flags) eq, length-with_place x.unspent bin i false);
           notes = omega (arith, k.notes, ap {A = SetState} {B = ℕ} (λ s. length s.flags) en, length-set x.noted.flags i false);
+          as_many = k.as_many ∙ ap (λ n. n * chunks) (sym (length-set slabs i no_slab));
+          standing = λ p given.
+              ap (λ s. has s p) ep
+              ∙ still_standing x.unspent x.places bin i false low small k.wide k.room k.standing p (sym (ap (λ s. has s p) eq) ∙ given);
+          spent = λ p given shut j out.
+              ⊎_elim
+              (λ (same : p % 4096 ≡ i). absurd (nothing_out slabs i j below (sym (ap (λ n. is_out_on (slab_at (set slabs i no_slab) n) j) same) ∙ out)))
+              (λ apart.
+              k.spent p
+              (sym (ap (λ s. has s p) ep ∙ elsewhere x.places bin i false low p apart) ∙ given)
+              (sym (ap (λ s. has s p) eq ∙ elsewhere x.unspent bin i false low p apart) ∙ shut) j
+              (sym (ap (λ slab. is_out_on slab j) (get_or-set_other slabs i (p % 4096) no_slab no_slab apart)) ∙ out))
+              (cases_eq (p % 4096) i);
           places = λ p.
               ap (λ s. has s p) ep
               ∙ (left (λ j. bin_of chunks (slab_at slabs j)) x.places i low k.room bin (sym (is ∙ line_bin)) small k.places p
@@ -163,13 +192,21 @@ module _ (chunks : ℕ) (slabs : List SlabState) (x : Index) (i : ℕ) (below : 
           out = omega (arith, eo, k.out, t.used, sum_but used slabs i below refl);
         }
 
-    pub enters : IsIndexOf chunks (set slabs i no_slab) x → places ≡ with_place x.places bin i true →
+    placed : IsIndexOf chunks (set slabs i no_slab) skip x → places ≡ with_place x.places bin i true →
+        (p : ℕ) → has places p ≡ is_the (bin_of chunks (slab_at slabs (p % 4096))) (p / 4096)
+    placed k ep p =
+        ap (λ s. has s p) ep
+        ∙ entered (λ j. bin_of chunks (slab_at slabs j)) x.places i (omega (arith, below, k.few, length-set slabs i no_slab)) k.room bin (sym (is ∙ line_bin)) small
+        (λ q. k.places q ∙ ap (λ o. is_the o (q / 4096)) (but_is chunks slabs i below (q % 4096))) p
+
+    pub enters : IsIndexOf chunks (set slabs i no_slab) skip x → places ≡ with_place x.places bin i true → unspent ≡ with_place x.unspent bin i true →
         noted ≡ record x.noted { flags = set x.noted.flags i (not (line.later == 0) || is_some line.stuck) } →
         listed ≡ x.listed + one (is_same_standing Listed line.standing) →
         unused ≡ x.unused + one (is_same_standing Listed line.standing && line.used == 0) →
         dead ≡ x.dead + one (is_same_standing Dead line.standing) → out ≡ x.out + line.used →
-        IsIndexOf chunks slabs (record { places = places; noted = noted; listed = listed; unused = unused; dead = dead; out = out })
-    enters k ep en el eu ed eo =
+        IsIndexOf chunks slabs skip
+        (record { places = places; unspent = unspent; noted = noted; listed = listed; unused = unused; dead = dead; out = out })
+    enters k ep eq en el eu ed eo =
         let few : length slabs ≤ 4096 = omega (arith, k.few, length-set slabs i no_slab) in
         let low : i < 4096 = omega (arith, below, few) in
         record {
@@ -177,11 +214,25 @@ module _ (chunks : ℕ) (slabs : List SlabState) (x : Index) (i : ℕ) (below : 
           few = few;
           tall = ap (λ s. s.levels) ep ∙ (levels-with_place x.places bin i true ∙ k.tall);
           room = omega (arith, k.room, ap {A = SetState} {B = ℕ} (λ s. length s.flags) ep, length-with_place x.places bin i true);
+          wide = omega (arith, k.wide, ap {A = SetState} {B = ℕ} (λ s. length s.flags) eq, length-with_place x.unspent bin i true);
           notes = omega (arith, k.notes, ap {A = SetState} {B = ℕ} (λ s. length s.flags) en, length-set x.noted.flags i (not (line.later == 0) || is_some line.stuck));
-          places = λ p.
+          as_many = k.as_many ∙ ap (λ n. n * chunks) (length-set slabs i no_slab);
+          standing = λ p given.
               ap (λ s. has s p) ep
-              ∙ entered (λ j. bin_of chunks (slab_at slabs j)) x.places i low k.room bin (sym (is ∙ line_bin)) small
-              (λ q. k.places q ∙ ap (λ o. is_the o (q / 4096)) (but_is chunks slabs i below (q % 4096))) p;
+              ∙ still_standing x.unspent x.places bin i true low small k.wide k.room k.standing p (sym (ap (λ s. has s p) eq) ∙ given);
+          spent = λ p given shut j out.
+              ⊎_elim
+              (λ (same : p % 4096 ≡ i).
+              absurd (both_ways (has unspent p) shut
+              (ap (λ s. has s p) eq ∙ put_there x.unspent bin i low k.wide small p same
+              (ap (λ o. is_the o (p / 4096)) (is ∙ line_bin ∙ ap (λ n. bin_of chunks (slab_at slabs n)) (sym same)) ∙ (sym (placed k ep p) ∙ given)))))
+              (λ apart.
+              k.spent p
+              (sym (ap (λ s. has s p) ep ∙ elsewhere x.places bin i true low p apart) ∙ given)
+              (sym (ap (λ s. has s p) eq ∙ elsewhere x.unspent bin i true low p apart) ∙ shut) j
+              (ap (λ slab. is_out_on slab j) (get_or-set_other slabs i (p % 4096) no_slab no_slab apart) ∙ out))
+              (cases_eq (p % 4096) i);
+          places = placed k ep;
           noted = λ j.
               ap (λ s. has s j) en
               ∙ note_but slabs x.noted.flags i (not (line.later == 0) || is_some line.stuck) below (omega (arith, low, k.notes))
@@ -193,15 +244,97 @@ module _ (chunks : ℕ) (slabs : List SlabState) (x : Index) (i : ℕ) (below : 
         }
 
     -- and the count of buffers that are out fits
-    pub out_fits : IsIndexOf chunks (set slabs i no_slab) x → sum_by used slabs ≤ 262144 → x.out + line.used ≤ 262144
+    pub out_fits : IsIndexOf chunks (set slabs i no_slab) skip x → sum_by used slabs ≤ 262144 → x.out + line.used ≤ 262144
     out_fits k few = omega (arith, few, k.out, t.used, sum_but used slabs i below refl)
 
 -- the index fits a list of which one slab was changed since that slab left it
 pub reenter : (s t : ListState) (i : ℕ) (y : SlabState) (x : Index) → t ≡ record s { slabs = set s.slabs i y } →
-    IsIndexOf s.chunks (set s.slabs i no_slab) x → IsIndexOf t.chunks (set t.slabs i no_slab) x
+    IsIndexOf s.chunks (set s.slabs i no_slab) s.skip x → IsIndexOf t.chunks (set t.slabs i no_slab) t.skip x
 reenter s t i y x e old =
-    subst (λ u. IsIndexOf u.chunks (set u.slabs i no_slab) x) (sym e)
-    (subst (λ slabs. IsIndexOf s.chunks slabs x) (sym (set_twice s.slabs i y no_slab)) old)
+    subst (λ u. IsIndexOf u.chunks (set u.slabs i no_slab) u.skip x) (sym e)
+    (subst (λ slabs. IsIndexOf s.chunks slabs s.skip x) (sym (set_twice s.slabs i y no_slab)) old)
+
+-- and one in which a scan leaves out a buffer of that slab, or doesn't any more
+pub reskip : (s t : ListState) (b : ℕ) (left_out : Bool) (x : Index) → IsListWhole s → t ≡ record s { skip = set s.skip b left_out } → b / s.chunks < length s.slabs →
+    IsIndexOf s.chunks (set s.slabs (b / s.chunks) no_slab) s.skip x → IsIndexOf t.chunks (set t.slabs (b / s.chunks) no_slab) t.skip x
+reskip s t b left_out x whole e below k =
+    let i = b / s.chunks in
+    subst (λ u. IsIndexOf u.chunks (set u.slabs i no_slab) u.skip x) (sym e)
+    (record {
+      narrow = k.narrow;
+      few = k.few;
+      tall = k.tall;
+      room = k.room;
+      wide = k.wide;
+      notes = k.notes;
+      as_many = length-set s.skip b left_out ∙ k.as_many;
+      places = k.places;
+      standing = k.standing;
+      noted = k.noted;
+      listed = k.listed;
+      unused = k.unused;
+      dead = k.dead;
+      out = k.out;
+      spent = λ p given shut j out.
+          ⊎_elim
+          (λ (same : p % 4096 ≡ i). absurd (nothing_out s.slabs i j below (sym (ap (λ n. is_out_on (slab_at (set s.slabs i no_slab) n) j) same) ∙ out)))
+          (λ apart.
+          get_or-set_other s.skip b (p % 4096 * s.chunks + j) left_out false
+          (λ same. apart (sym (div-mul-add (p % 4096) s.chunks j (inside p j apart out)) ∙ ap (λ n. n / s.chunks) same))
+          ∙ k.spent p given shut j out)
+          (cases_eq (p % 4096) i);
+    })
+  where
+    inside : (p j : ℕ) → p % 4096 ≢ b / s.chunks → is_out_on (slab_at (set s.slabs (b / s.chunks) no_slab) (p % 4096)) j ≡ true → j < s.chunks
+    inside p j apart out =
+        let here : is_out_on (slab_at s.slabs (p % 4096)) j ≡ true =
+        sym (ap (λ slab. is_out_on slab j) (get_or-set_other s.slabs (b / s.chunks) (p % 4096) no_slab no_slab apart)) ∙ out in
+        let low = out_within s.slabs (p % 4096) j here in
+        let slab : IsSlab s.chunks (slab_at s.slabs (p % 4096)) = whole.slabs (p % 4096) no_slab low in
+        ⊎_elim (λ less. less)
+        (λ past. absurd (both_ways (is_out_on (slab_at s.slabs (p % 4096)) j) (get_or_past (slab_at s.slabs (p % 4096)).out j false (omega (arith, past, slab.size))) here))
+        (cases_lt j s.chunks)
+
+-- a slab that has no buffer left to ask about can be closed
+pub spends : (chunks : ℕ) (slabs : List SlabState) (skip : List Bool) (x : Index) (p : ℕ) → IsIndexOf chunks slabs skip x → p < 532480 →
+    IsSpent chunks slabs skip (p % 4096) → IsIndexOf chunks slabs skip (record x { unspent = record x.unspent { flags = set x.unspent.flags p false } })
+spends chunks slabs skip x p k low none =
+    record {
+      narrow = k.narrow;
+      few = k.few;
+      tall = k.tall;
+      room = k.room;
+      wide = omega (arith, k.wide, length-set x.unspent.flags p false);
+      notes = k.notes;
+      as_many = k.as_many;
+      places = k.places;
+      noted = k.noted;
+      listed = k.listed;
+      unused = k.unused;
+      dead = k.dead;
+      out = k.out;
+      standing = λ q given.
+          ⊎_elim
+          (λ (same : q ≡ p).
+          absurd (both_ways (get_or (set x.unspent.flags p false) q false)
+          (ap (λ n. get_or (set x.unspent.flags p false) n false) same ∙ get_or-set_same x.unspent.flags p false false (omega (arith, low, k.wide))) given))
+          (λ apart. k.standing q (sym (get_or-set_other x.unspent.flags p q false false apart) ∙ given))
+          (cases_eq q p);
+      spent = λ q given shut.
+          ⊎_elim
+          (λ (same : q ≡ p). subst (λ n. IsSpent chunks slabs skip (n % 4096)) (sym same) none)
+          (λ apart. k.spent q given (sym (get_or-set_other x.unspent.flags p q false false apart) ∙ shut))
+          (cases_eq q p);
+    }
+
+-- the last place that is open is that of the last slab that may have a buffer left
+pub last_unspent : (s : ListState) (x : Index) (to : ℕ) (o : Option ℕ) → IsIndexOf s.chunks s.slabs s.skip x → IsLastBelow (has x.unspent) to o → IsLastUnspent s to o
+last_unspent s x to None k none = λ p low given. k.spent p (k.places p ∙ given) (none p low)
+last_unspent s x to (Some n) k found = (
+  found.0,
+  sym (k.places n) ∙ k.standing n found.1,
+  λ p over low given. k.spent p (k.places p ∙ given) (found.2 p over low),
+)
 
 pub still_within : (s t : ListState) (i : ℕ) (y : SlabState) → t ≡ record s { slabs = set s.slabs i y } → i < length s.slabs → i < length t.slabs
 still_within s t i y e below = omega (arith, below, ap {A = ListState} {B = ℕ} (λ u. length u.slabs) e, length-set s.slabs i y)

@@ -1,5 +1,5 @@
 -- Slabs by their places: the order of places is the order in which slabs serve.
-use Rattle.std.proofs.Common.{◌≡◌, ◌≢◌, ℕ, ◌+◌, ◌-◌, ◌*◌, ◌/◌, ◌%◌, ◌<◌, ◌≤◌, Bool, true, false, cond, ◌&&◌, ◌||◌, nat_lt, ◌==◌, List, length, Option, Some, None, ⊎_elim, sym, ◌∙◌, ap, ap₂, arith, refl}
+use Rattle.std.proofs.Common.{◌≡◌, ◌≢◌, ℕ, ◌+◌, ◌-◌, ◌*◌, ◌/◌, ◌%◌, ◌<◌, ◌≤◌, Bool, true, false, cond, ◌&&◌, ◌||◌, nat_lt, ◌==◌, List, length, Option, Some, None, ⊎_elim, sym, ◌∙◌, ap, ap₂, arith, refl, subst}
 use Rattle.std.specs.Prelude.{◌↔◌, MatchOption}
 use Rattle.std.proofs.lemmas.Bool.{cases_eq, cases_lt, cases_order, both_ways, eq-eqb, ne_eqb, eqb-true, lt-ltb, le-ltb, ltb-true, and_parts, and_from, false_from_ne_true}
 use Rattle.std.proofs.lemmas.List.{get_or_past}
@@ -10,7 +10,7 @@ use Rattle.kmem_model.specs.CacheOrder.{least_below, IsLeastBelow, is_the, is_pa
 use Rattle.kmem_model.specs.declared.cache_state.Standing.{Standing}
 use Rattle.kmem_model.specs.declared.cache_state.Standing.TheVariants.{Source, Listed, Dead}
 use Rattle.slab_list.specs.Slabs.{ListState}
-use Rattle.slab_list.specs.Bins.{bin_at, bin_of, stands_at}
+use Rattle.slab_list.specs.Bins.{bin_at, bin_of, stands_at, IsSpent, IsLastUnspent}
 use Rattle.slab_list.proofs.Steps.{listed_within, listed_is}
 
 -- the bin of a slab of which some but not all buffers are out
@@ -256,6 +256,29 @@ module _ (s : ListState) (narrow : s.chunks ≤ 64) (few : length s.slabs ≤ 40
           ⊎_elim
           (λ (over : p < place_of s.slabs j).
           absurd (both_ways (stands_at s (place_of s.slabs j)) (found.2 (place_of s.slabs j) over (all j below given)) (stands j below (only j below given))))
+          (λ le. le)
+          (cases_lt p (place_of s.slabs j)),
+    )
+
+    spent_at : (j : ℕ) → j < length s.slabs → IsSpent s.chunks s.slabs s.skip (place_of s.slabs j % 4096) → IsSpent s.chunks s.slabs s.skip j
+    spent_at j below spent =
+        subst (IsSpent s.chunks s.slabs s.skip)
+        (mod-mul-add (partial_bin (used (slab_at s.slabs j)) (is_marked (slab_at s.slabs j))) 4096 j (omega (arith, below, few))) spent
+
+    -- the same among those that may have a buffer left to ask about
+    pub left_unspent : (bound : ℕ) (o : Option ℕ) → bound ≤ 524288 → ((j : ℕ) → j < length s.slabs → can j ≡ true → place_of s.slabs j < bound) →
+        ((j : ℕ) → IsSpent s.chunks s.slabs s.skip j → can j ≡ false) → IsLastUnspent s bound o → Left s can o
+    left_unspent bound None few_places all cant none =
+        λ j below. false_from_ne_true (can j) (λ given.
+        both_ways (can j) (cant j (spent_at j below (none (place_of s.slabs j) (all j below given) (stands j below (only j below given))))) given)
+    left_unspent bound (Some p) few_places all cant found = (
+      omega (arith, found.0, few_places),
+      found.1,
+      λ j below given.
+          ⊎_elim
+          (λ (over : p < place_of s.slabs j).
+          absurd (both_ways (can j)
+          (cant j (spent_at j below (found.2 (place_of s.slabs j) over (all j below given) (stands j below (only j below given))))) given))
           (λ le. le)
           (cases_lt p (place_of s.slabs j)),
     )

@@ -1,5 +1,5 @@
 -- Lines and cells, and the slabs that they stand for.
-use Rattle.std.proofs.Common.{◌≡◌, ◌≢◌, ℕ, zero, suc, ◌+◌, ◌*◌, ◌/◌, ◌%◌, ◌<◌, ◌≤◌, false, List, [], ◌∷◌, length, get_or, set, take, drop, ◌⊎◌, inl, inr, ⊎_elim, sym, ◌∙◌, ap, ap₂, refl, arith, suc-mul, zero-mul, length-set, length-take, length-drop, subst}
+use Rattle.std.proofs.Common.{Bool, ◌≡◌, ◌≢◌, ℕ, zero, suc, ◌+◌, ◌*◌, ◌/◌, ◌%◌, ◌<◌, ◌≤◌, false, List, [], ◌∷◌, length, get_or, set, take, drop, ◌⊎◌, inl, inr, ⊎_elim, sym, ◌∙◌, ap, ap₂, refl, arith, suc-mul, zero-mul, length-set, length-take, length-drop, subst}
 use Rattle.std.proofs.Math.Seq.{take-set-lt, map-set_same}
 use Rattle.std.proofs.lemmas.Bool.{cases_eq}
 use Rattle.std.proofs.lemmas.Nat.{same_from_place, div_below, mod_below, row_fits, div-add-mod'}
@@ -110,8 +110,8 @@ module _ (chunks : ℕ) (cells : List CellState) (lines : List Line) (kept : IsL
         blank = λ idle. (sym l.counted ∙ (l.blank idle).0, (l.blank idle).1, (l.blank idle).2);
       }
 
-  pub whole : IsListWhole (record { chunks = chunks; slabs = slabs; cells = cell_homes cells })
-  whole =
+  pub whole : (skip : List Bool) → IsListWhole (record { chunks = chunks; slabs = slabs; cells = cell_homes cells; skip = skip })
+  whole skip =
       record {
         some = kept.some;
         few = omega (arith, kept.few, length-map cells (λ (c : CellState). c.home));

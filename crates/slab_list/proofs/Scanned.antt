@@ -1,13 +1,15 @@
 -- What a scan may ask about: only partial slabs, and where it is mild only those with few buffers out.
-use Rattle.std.proofs.Common.{◌≡◌, ℕ, ◌+◌, ◌*◌, ◌<◌, ◌≤◌, Bool, true, false, ◌&&◌, ◌||◌, not, nat_lt, ◌==◌, List, length, Option, Some, None, is_some, option_map, ⊎_elim, sym, ◌∙◌, ap, arith, refl}
+use Rattle.std.proofs.Common.{◌≡◌, ℕ, ◌+◌, ◌*◌, ◌<◌, ◌≤◌, Bool, true, false, ◌&&◌, ◌||◌, not, nat_lt, ◌==◌, List, length, get_or, Option, Some, None, is_some, option_map, ⊎_elim, sym, ◌∙◌, ap, ap₂, arith, refl}
 use Rattle.std.specs.Prelude.{◌↔◌}
-use Rattle.std.proofs.lemmas.Bool.{cases_Bool, both_ways, and_parts, or_cases, or_right, not-true, eqb-true, eq-eqb, ltb-true, lt-ltb}
+use Rattle.std.proofs.lemmas.Bool.{cases_Bool, both_ways, and_parts, or_cases, or_right, not-true, eqb-true, eq-eqb, ltb-true, lt-ltb, cases_lt}
+use Rattle.std.proofs.lemmas.List.{get_or_past}
 use Rattle.kmem_model.specs.CacheState.{SlabState, slab_at, used}
-use Rattle.kmem_model.specs.CacheOrder.{least_below, is_the, is_partial, is_marked, first_partial, is_reclaimable, least_to_move}
+use Rattle.kmem_model.specs.CacheOrder.{least_below, is_the, is_partial, is_marked, first_partial, is_reclaimable, least_to_move, can_move}
 use Rattle.kmem_model.specs.CacheState.{is_out_on}
 use Rattle.kmem_model.specs.declared.cache_state.Mode.{Mode}
 use Rattle.kmem_model.specs.declared.cache_state.Mode.TheVariants.{Mild}
 use Rattle.slab_list.specs.Slabs.{mode_of}
+use Rattle.slab_list.specs.Bins.{IsSpent}
 use Rattle.slab_list.proofs.Orders.{place_of, partial_bin}
 
 pub is_some_map : (f : ℕ → ℕ) (o : Option ℕ) → is_some (option_map f o) ≡ is_some o
@@ -67,3 +69,34 @@ scan_ends chunks numer false slabs i j low less a b partial some le ends given =
     and_regroup : (p q r : Bool) → p ≡ true → (p && q && r) ≡ (q && r)
     and_regroup true q r e = refl
     and_regroup false q r e = absurd (both_ways false refl e)
+
+-- a slab with nothing left can't be asked about
+pub spent_cant : ((n : ℕ) (t : ℕ → Bool) → (least_below n t ≡ None) ↔ ((k : ℕ) → k < n → t k ≡ false)) →
+    (chunks numer : ℕ) (mode : Mode) (skip : List Bool) (slabs : List SlabState) (i : ℕ) → IsSpent chunks slabs skip i →
+    is_some (least_to_move chunks numer mode (λ b. get_or skip b false) slabs i) ≡ false
+spent_cant none_is chunks numer mode skip slabs i spent =
+    ap is_some ((none_is (length (slab_at slabs i).out) (can_move chunks numer mode (λ b. get_or skip b false) slabs i)).1
+    (λ k below.
+    not_both (is_reclaimable chunks numer mode (slab_at slabs i) && not (is_the (first_partial slabs) i)) (is_out_on (slab_at slabs i) k)
+    (get_or skip (i * chunks + k) false) (spent k)))
+  where
+    not_both : (p out left : Bool) → (out ≡ true → left ≡ true) → (p && out && not left) ≡ false
+    not_both false out left given = refl
+    not_both true false left given = refl
+    not_both true true left given = ap not (given refl)
+
+-- and one that may be asked about, but not about any of its buffers, has nothing left
+pub none_left : ((n : ℕ) (t : ℕ → Bool) → (least_below n t ≡ None) ↔ ((k : ℕ) → k < n → t k ≡ false)) →
+    (chunks numer : ℕ) (mode : Mode) (skip : List Bool) (slabs : List SlabState) (i : ℕ) →
+    (is_reclaimable chunks numer mode (slab_at slabs i) && not (is_the (first_partial slabs) i)) ≡ true →
+    least_to_move chunks numer mode (λ b. get_or skip b false) slabs i ≡ None → IsSpent chunks slabs skip i
+none_left none_is chunks numer mode skip slabs i may none k out =
+    let slab = slab_at slabs i in
+    let below : k < length slab.out =
+    ⊎_elim (λ low. low) (λ past. absurd (both_ways (is_out_on slab k) (get_or_past slab.out k false past) out)) (cases_lt k (length slab.out)) in
+    skipped (is_reclaimable chunks numer mode slab && not (is_the (first_partial slabs) i)) (is_out_on slab k) (get_or skip (i * chunks + k) false) may out
+    ((none_is (length slab.out) (can_move chunks numer mode (λ b. get_or skip b false) slabs i)).0 none k below)
+  where
+    skipped : (p out left : Bool) → p ≡ true → out ≡ true → (p && out && not left) ≡ false → left ≡ true
+    skipped p out true a b fails = refl
+    skipped p out false a b fails = absurd (both_ways (p && out && true) fails (ap₂ (λ (x y : Bool). x && y && true) a b))

@@ -21,8 +21,8 @@ use Rattle.slab_list.specs.Slabs.{ListState, on_slab, on_buffer, fresh_slab}
 use Rattle.slab_list.proofs.Rows.{row_within, slab_at-slabs_of, length-row_at, get_or-row_at, IsAt, at, out_by_cell, slabs_of-line, slabs_of-cell, homes_kept}
 
 -- what contracts see of the fields
-abbrev pub view_of : ℕ → List CellState → List Line → ListState
-view_of chunks cells lines = record { chunks = chunks; slabs = slabs_of chunks cells lines; cells = cell_homes cells }
+abbrev pub view_of : ℕ → List CellState → List Line → List Bool → ListState
+view_of chunks cells lines skip = record { chunks = chunks; slabs = slabs_of chunks cells lines; cells = cell_homes cells; skip = skip }
 
 -- a slab that is listed, or dead, is one of the list
 pub listed_within : (slabs : List SlabState) (i : ℕ) → is_listed (slab_at slabs i) ≡ true → i < length slabs
@@ -81,11 +81,11 @@ module _ (chunks : ℕ) (cells : List CellState) (lines : List Line) (kept : IsL
     pub slab_read : slab_at (slabs_of chunks cells lines) i ≡ slab_of x (row_at chunks cells i)
     slab_read = slab_at-slabs_of chunks cells lines i x below ∙ ap (λ l. slab_of l (row_at chunks cells i)) (sym read)
 
-    pub line_step : (l : Line) (change : SlabState → SlabState) →
+    pub line_step : {skip : List Bool} (l : Line) (change : SlabState → SlabState) →
         slab_of l (row_at chunks cells i) ≡ change (slab_of x (row_at chunks cells i)) →
-        view_of chunks cells (set lines i l) ≡ on_slab (view_of chunks cells lines) i change
-    line_step l change same =
-        ap (λ slabs. record { chunks = chunks; slabs = slabs; cells = cell_homes cells })
+        view_of chunks cells (set lines i l) skip ≡ on_slab (view_of chunks cells lines skip) i change
+    line_step {skip} l change same =
+        ap (λ slabs. record { chunks = chunks; slabs = slabs; cells = cell_homes cells; skip = skip })
         (slabs_of-line chunks cells lines kept i l below
         ∙ ap (set (slabs_of chunks cells lines) i) (same ∙ ap change (sym slab_read)))
 
@@ -211,11 +211,11 @@ module _ (chunks : ℕ) (cells : List CellState) (lines : List Line) (kept : IsL
         ∙ sum_by-set (λ (o : Bool). cond o 1 0) (map (λ (e : CellState). e.out) row) k d.out c.out
         (omega (arith, length-map row (λ (e : CellState). e.out), k_below)))
 
-    pub cell_step : (l : Line) (d : CellState) (change : SlabState → ℕ → SlabState) → d.home ≡ c.home →
+    pub cell_step : {skip : List Bool} (l : Line) (d : CellState) (change : SlabState → ℕ → SlabState) → d.home ≡ c.home →
         slab_of l (set row k d) ≡ change (slab_of x row) k →
-        view_of chunks (set cells b d) (set lines i l) ≡ on_buffer (view_of chunks cells lines) b change
-    cell_step l d change home same =
-        ap₂ (λ slabs homes. record { chunks = chunks; slabs = slabs; cells = homes })
+        view_of chunks (set cells b d) (set lines i l) skip ≡ on_buffer (view_of chunks cells lines skip) b change
+    cell_step {skip} l d change home same =
+        ap₂ (λ slabs homes. record { chunks = chunks; slabs = slabs; cells = homes; skip = skip })
         (slabs_of-cell chunks cells lines kept b d l below
         ∙ ap (set (slabs_of chunks cells lines) i) (same ∙ ap (λ s. change s k) (sym buffer_slab)))
         (homes_kept cells b d c (home ∙ ap (λ (e : CellState). e.home) cell))

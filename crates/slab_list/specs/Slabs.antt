@@ -18,6 +18,8 @@ pub record ListState : Type 0 where
   pub slabs : List SlabState
   -- the homes of the cells of all buffers, by number
   pub cells : List TableId
+  -- for each buffer whether a scan leaves it out
+  pub skip : List Bool
 
 -- what always holds of one slab: its number of buffers; and where it isn't listed, no buffer is out, and there is no count and no mark
 pub record IsSlab (chunks : ℕ) (slab : SlabState) : Type 0 where

@@ -23,6 +23,8 @@ pub struct Index {
     // Each slab in its bin, if it has one. The bins of partial slabs come first, in the order in which they serve; then come the bin of
     // listed slabs with no buffer out and the one of dead slabs.
     pub places: NumberSet,
+    // Of those places, the ones whose slab may have a buffer left that a scan hasn't asked about. A slab that changes is one of them again.
+    pub unspent: NumberSet,
     // The slabs with a count or a mark.
     pub noted: NumberSet,
     pub listed: u32,
@@ -40,6 +42,7 @@ impl Index {
     {
         Ok(Index {
             places: NumberSet::create(alloc, 4, (DEAD + 1) * PLACES)?,
+            unspent: NumberSet::create(alloc, 4, (DEAD + 1) * PLACES)?,
             noted: NumberSet::create(alloc, 2, PLACES)?,
             listed: 0,
             unused: 0,
@@ -50,12 +53,14 @@ impl Index {
 
     /// The slab is taken out of the index, as if it were in the source.
     pub fn leave<K: Kind>(&mut self, table: &SlabTable<K>, slab: u32)
-        requires index { IsIndexOf table.now.chunks table.now.slabs self.old }
+        requires index { IsIndexOf table.now.chunks table.now.slabs table.now.skip self.old }
         requires slab { slab < length table.now.slabs }
-        ensures { IsIndexOf table.now.chunks (slice_set table.now.slabs slab no_slab) self.new }
+        ensures { IsIndexOf table.now.chunks (slice_set table.now.slabs slab no_slab) table.now.skip self.new }
     {
         let line = table.line(slab);
-        place(&mut self.places, line.bin(table.chunks()), slab, false);
+        let bin = line.bin(table.chunks());
+        place(&mut self.places, bin, slab, false);
+        place(&mut self.unspent, bin, slab, false);
         note(&mut self.noted, slab, false);
         self.listed -= line.listed();
         self.unused -= line.unused();
@@ -65,12 +70,14 @@ impl Index {
 
     /// The slab is put into the index, as it stands now.
     pub fn enter<K: Kind>(&mut self, table: &SlabTable<K>, slab: u32)
-        requires index { IsIndexOf table.now.chunks (slice_set table.now.slabs slab no_slab) self.old }
+        requires index { IsIndexOf table.now.chunks (slice_set table.now.slabs slab no_slab) table.now.skip self.old }
         requires slab { slab < length table.now.slabs }
-        ensures { IsIndexOf table.now.chunks table.now.slabs self.new }
+        ensures { IsIndexOf table.now.chunks table.now.slabs table.now.skip self.new }
     {
         let line = table.line(slab);
-        place(&mut self.places, line.bin(table.chunks()), slab, true);
+        let bin = line.bin(table.chunks());
+        place(&mut self.places, bin, slab, true);
+        place(&mut self.unspent, bin, slab, true);
         note(&mut self.noted, slab, line.is_noted());
         self.listed += line.listed();
         self.unused += line.unused();

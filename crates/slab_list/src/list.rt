@@ -1,5 +1,5 @@
 //! The slabs of one cache.
-ghost use Rattle.std.specs.Prelude.{◌≡◌, ◌≤◌, ◌<◌, ◌+◌, ◌*◌, ◌/◌, ◌%◌, ◌^◌, true, false, length, map, replicate, count_by, sum_by, option_map, IfOk, if◌then◌else◌};
+ghost use Rattle.std.specs.Prelude.{◌≡◌, ◌≤◌, ◌<◌, ◌+◌, ◌*◌, ◌/◌, ◌%◌, ◌^◌, true, false, length, map, replicate, count_by, sum_by, option_map, slice_set, slice_index_or, IfOk, if◌then◌else◌};
 ghost use Rattle.kmem_buf.specs.Homes.{IsBufferOf, stub_homes};
 ghost use Rattle.kmem_model.specs.CacheState.{SlabState, slab_at, slab_in_source, is_listed, is_dead, used, free_buffers};
 ghost use Rattle.kmem_model.specs.CacheOrder.{is_partial};
@@ -7,7 +7,7 @@ ghost use Rattle.kmem_model.specs.CacheEnter.{slab_listed, slab_taken, slab_free
 ghost use Rattle.kmem_model.specs.declared.cache_state.Standing.TheVariants.{Source, Listed, Dead};
 ghost use Rattle.number_set.specs.Places.{IsLeastFrom, IsLastBelow};
 ghost use Rattle.slab_list.specs.Slabs.{IsListWhole, IsFree, slab_with, is_out_in, on_slab, on_buffer, fresh_slab, slab_left};
-ghost use Rattle.slab_list.specs.Bins.{has_note, stands_at};
+ghost use Rattle.slab_list.specs.Bins.{has_note, stands_at, IsSpent, IsLastUnspent};
 
 use crate::index::Index;
 use crate::table::SlabTable;
@@ -30,7 +30,7 @@ impl<K> Model for SlabList<K> {
 
     ghost view = { λ s. s.table };
 
-    ghost invariant = { λ s. IsIndexOf s.table.chunks s.table.slabs s.index };
+    ghost invariant = { λ s. IsIndexOf s.table.chunks s.table.slabs s.table.skip s.index };
 }
 
 impl<K> Drop for SlabList<K> {
@@ -209,6 +209,26 @@ impl<K: Kind> SlabList<K> {
         self.index.enter(&self.table, slab);
     }
 
+    /// Whether a scan leaves the buffer out.
+    pub(crate) fn is_left_out(&self, number: u32) -> bool
+        requires { number < length self.now.cells }
+        ensures { result ≡ slice_index_or self.now.skip number false }
+    {
+        self.table.law_whole();
+        self.table.is_left_out(number)
+    }
+
+    /// A scan leaves the buffer out from then on, or doesn't.
+    pub fn leave_out(&mut self, number: u32, left_out: bool)
+        requires { number < length self.old.cells }
+        ensures { self.new ≡ record self.old { skip = slice_set self.old.skip number left_out } }
+    {
+        let slab = number / self.table.chunks();
+        self.index.leave(&self.table, slab);
+        self.table.leave_out(number, left_out);
+        self.index.enter(&self.table, slab);
+    }
+
     /// Every count and mark goes.
     pub fn forget(&mut self)
         ensures { self.new ≡ record self.old { slabs = map unmarked self.old.slabs } }
@@ -267,6 +287,23 @@ impl<K: Kind> SlabList<K> {
         self.index.places.before(place, &mut Steps::create())
     }
 
+    /// Of the slabs that stand below this place, the last one that may have a buffer left to ask about.
+    pub(crate) fn unspent_before(&self, place: u32) -> Option<u32>
+        requires { place ≤ 532480 }
+        ensures { IsLastUnspent self.now place result }
+    {
+        self.index.unspent.before(place, &mut Steps::create())
+    }
+
+    /// The slab that stands at this place has no buffer left to ask about. It isn't looked at again before it changes.
+    pub(crate) fn mark_spent(&mut self, place: u32)
+        requires range { place < 532480 }
+        requires spent { IsSpent self.old.chunks self.old.slabs self.old.skip (place % 4096) }
+        ensures { self.new ≡ self.old }
+    {
+        self.index.unspent.remove(place);
+    }
+
     /// How many slabs are listed; dead ones are not.
     pub fn listed_count(&self) -> u32
         ensures { result ≡ count_by is_listed self.now.slabs }
@@ -310,6 +347,7 @@ impl<K: Kind> SlabList<K> {
         ensures slabs { IfOk result (λ s. s.slabs ≡ replicate slabs (slab_in_source chunks)) }
         ensures chunks { IfOk result (λ s. s.chunks ≡ chunks) }
         ensures cells { IfOk result (λ s. length s.cells ≡ slabs * chunks) }
+        ensures skip { IfOk result (λ s. s.skip ≡ replicate (slabs * chunks) false) }
     {
         Ok(SlabList {
             table: SlabTable::create(alloc, slabs, chunks)?,

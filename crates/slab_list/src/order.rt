@@ -45,40 +45,29 @@ impl<K: Kind> SlabList<K> {
         }
     }
 
-    /// The buffer that a scan would have moved next: the least that can be, of the last slab that has one. Those are left out whose entry
-    /// in `skip` is true.
+    /// The buffer that a scan would have moved next: the least that can be, of the last slab that has one, and that it doesn't leave out.
+    /// The first partial slab was found already.
     /// A mild scan takes only slabs without a mark, with one buffer out or with less than `numer` eighths of them out.
-    pub fn last_reclaimable(&self, numer: u32, desperate: bool, skip: &[bool]) -> Option<u32>
-        requires { length skip.now ≡ length self.now.cells }
-        ensures choice { result ≡ last_reclaimable self.now.chunks numer (mode_of desperate)
-            (λ b. slice_index_or skip.now b false) self.now.slabs }
-        ensures out { IfSome result (λ b. (b < length self.now.cells) × (is_out_in self.now b ≡ true)) }
-    {
-        let first = self.first_partial(&mut Steps::create());
-        self.last_reclaimable_after(first, numer, desperate, skip)
-    }
-
-    /// The same, where the first partial slab was found already.
-    pub fn last_reclaimable_after(
-        &self,
+    /// A slab with none left is looked at once, and again only after a change of it.
+    pub fn last_reclaimable(
+        &mut self,
         first: Option<u32>,
         numer: u32,
         desperate: bool,
-        skip: &[bool],
     ) -> Option<u32>
-        requires first { first ≡ first_partial self.now.slabs }
-        requires skip { length skip.now ≡ length self.now.cells }
-        ensures choice { result ≡ last_reclaimable self.now.chunks numer (mode_of desperate)
-            (λ b. slice_index_or skip.now b false) self.now.slabs }
-        ensures out { IfSome result (λ b. (b < length self.now.cells) × (is_out_in self.now b ≡ true)) }
+        requires first { first ≡ first_partial self.old.slabs }
+        ensures choice { result ≡ last_reclaimable self.old.chunks numer (mode_of desperate)
+            (λ b. slice_index_or self.old.skip b false) self.old.slabs }
+        ensures out { IfSome result (λ b. (b < length self.old.cells) × (is_out_in self.old b ≡ true)) }
+        ensures list { self.new ≡ self.old }
     {
         let rule = Rule {
             numer,
             desperate,
             first,
         };
-        let slab = self.last_to_ask(rule, skip)?;
-        self.least_to_move(rule, skip, slab)
+        let slab = self.last_to_ask(rule)?;
+        self.least_to_move(rule, slab)
     }
 
     /// The first partial slab. It is found by at most four steps.
@@ -208,29 +197,45 @@ impl<K: Kind> SlabList<K> {
 // The choice of a scan.
 impl<K: Kind> SlabList<K> {
     // The last slab with a buffer that can be moved.
-    fn last_to_ask(&self, rule: Rule, skip: &[bool]) -> Option<u32>
-        requires first { rule.first ≡ first_partial self.now.slabs }
-        requires skip { length skip.now ≡ length self.now.cells }
-        ensures last { result ≡ foremost (length self.now.slabs)
-            (λ i. is_some (least_to_move self.now.chunks rule.numer (mode_of rule.desperate)
-            (λ b. slice_index_or skip.now b false) self.now.slabs i))
-            (λ j i. comes_before self.now.slabs i j) }
-        ensures range { IfSome result (λ slab. slab < length self.now.slabs) }
+    fn last_to_ask(&mut self, rule: Rule) -> Option<u32>
+        requires first { rule.first ≡ first_partial self.old.slabs }
+        ensures last { result ≡ foremost (length self.old.slabs)
+            (λ i. is_some (least_to_move self.old.chunks rule.numer (mode_of rule.desperate)
+            (λ b. slice_index_or self.old.skip b false) self.old.slabs i))
+            (λ j i. comes_before self.old.slabs i j) }
+        ensures range { IfSome result (λ slab. slab < length self.old.slabs) }
+        ensures list { self.new ≡ self.old }
     {
         law_order();
         self.law_whole();
-        let mut last = self.place_before(UNUSED * PLACES);
+        let mut last = self.unspent_before(UNUSED * PLACES);
         while let Some(place) = last {
             let slab = place % PLACES;
-            if self.least_to_move(rule, skip, slab).is_some() {
+            if self.least_to_move(rule, slab).is_some() {
                 return Some(slab);
             }
             if self.ends_scan(rule, slab) {
                 return None;
             }
-            last = self.place_before(place);
+            self.pass(rule, place);
+            last = self.unspent_before(place);
         }
         None
+    }
+
+    // No buffer of the slab that stands at this place can be moved. Where that isn't because it is the first partial one, none of it is left.
+    fn pass(&mut self, rule: Rule, place: u32)
+        requires first { rule.first ≡ first_partial self.old.slabs }
+        requires slab { place % 4096 < length self.old.slabs }
+        requires range { place < 532480 }
+        requires none { least_to_move self.old.chunks rule.numer (mode_of rule.desperate)
+            (λ b. slice_index_or self.old.skip b false) self.old.slabs (place % 4096) ≡ None }
+        ensures { self.new ≡ self.old }
+    {
+        law_order();
+        if self.may_ask(rule, place % PLACES) {
+            self.mark_spent(place);
+        }
     }
 
     // Whether a mild scan takes neither this slab nor any fuller one.
@@ -242,13 +247,12 @@ impl<K: Kind> SlabList<K> {
     }
 
     // The least buffer of the slab that can be moved.
-    fn least_to_move(&self, rule: Rule, skip: &[bool], slab: u32) -> Option<u32>
+    fn least_to_move(&self, rule: Rule, slab: u32) -> Option<u32>
         requires first { rule.first ≡ first_partial self.now.slabs }
-        requires skip { length skip.now ≡ length self.now.cells }
         requires slab { slab < length self.now.slabs }
         ensures least { result ≡ option_map (λ k. slab * self.now.chunks + k)
             (least_to_move self.now.chunks rule.numer (mode_of rule.desperate)
-            (λ b. slice_index_or skip.now b false) self.now.slabs slab) }
+            (λ b. slice_index_or self.now.skip b false) self.now.slabs slab) }
         ensures out { IfSome result (λ b. (b < length self.now.cells) × (is_out_in self.now b ≡ true)) }
     {
         law_order();
@@ -256,23 +260,22 @@ impl<K: Kind> SlabList<K> {
             return None;
         }
         for place in 0..self.chunks() {
-            if self.is_left(skip, slab, place) {
+            if self.is_left(slab, place) {
                 return Some(self.number(slab, place));
             }
         }
         None
     }
 
-    // Whether the buffer is out, and is not to be skipped.
-    fn is_left(&self, skip: &[bool], slab: u32, index: u32) -> bool
-        requires skip { length skip.now ≡ length self.now.cells }
+    // Whether the buffer is out, and isn't left out.
+    fn is_left(&self, slab: u32, index: u32) -> bool
         requires slab { slab < length self.now.slabs }
         requires index { index < self.now.chunks }
         ensures { result ≡ (is_out_on (slab_at self.now.slabs slab) index
-            && not (slice_index_or skip.now (slab * self.now.chunks + index) false)) }
+            && not (slice_index_or self.now.skip (slab * self.now.chunks + index) false)) }
     {
         let number = self.number(slab, index);
-        self.is_out_at(slab, index) && !skip[number as usize]
+        self.is_out_at(slab, index) && !self.is_left_out(number)
     }
 
     fn may_ask(&self, rule: Rule, slab: u32) -> bool

@@ -1,5 +1,5 @@
 //! The slabs of one cache, each by its number, with the cells of all their buffers.
-ghost use Rattle.std.specs.Prelude.{◌≡◌, ◌≤◌, ◌<◌, ◌+◌, ◌*◌, ◌/◌, ◌%◌, true, false, length, map, replicate, option_map, IfOk};
+ghost use Rattle.std.specs.Prelude.{◌≡◌, ◌≤◌, ◌<◌, ◌+◌, ◌*◌, ◌/◌, ◌%◌, true, false, length, map, replicate, option_map, slice_set, slice_index_or, IfOk};
 ghost use Rattle.kmem_buf.specs.Homes.{IsBufferOf, stub_homes};
 ghost use Rattle.kmem_model.specs.CacheState.{SlabState, slab_at, slab_in_source, is_same_standing, is_listed, is_dead, used};
 ghost use Rattle.kmem_model.specs.CacheEnter.{slab_listed, slab_taken, slab_freed, slab_later, slab_never, slab_given_back, unmarked};
@@ -18,6 +18,8 @@ pub struct SlabTable<K> {
     chunks: u32,
     cells: Vec<Cell>,
     lines: Vec<Line>,
+    // For each buffer whether a scan leaves it out.
+    skip: Vec<bool>,
     kind: PhantomData<K>,
 }
 
@@ -32,6 +34,7 @@ impl<K> Model for SlabTable<K> {
       chunks = s.chunks;
       slabs = slabs_of s.chunks s.cells.items s.lines.items;
       cells = cell_homes s.cells.items;
+      skip = s.skip.items;
     } };
 
     ghost invariant = { λ s. IsListKept s.chunks s.cells.items s.lines.items };
@@ -43,6 +46,7 @@ impl<K> Drop for SlabTable<K> {
             chunks: _,
             cells: _,
             lines: _,
+            skip: _,
             kind: _,
         } = self;
     }
@@ -135,6 +139,22 @@ impl<K: Kind> SlabTable<K> {
     {
         let cell = &self.cells[number as usize];
         cell.is_out()
+    }
+
+    /// Whether a scan leaves the buffer out.
+    pub fn is_left_out(&self, number: u32) -> bool
+        requires { number < length self.now.skip }
+        ensures { result ≡ slice_index_or self.now.skip number false }
+    {
+        self.skip[number as usize]
+    }
+
+    /// A scan leaves the buffer out from then on, or doesn't.
+    pub fn leave_out(&mut self, number: u32, left_out: bool)
+        requires { number < length self.old.skip }
+        ensures { self.new ≡ record self.old { skip = slice_set self.old.skip number left_out } }
+    {
+        self.skip[number as usize] = left_out;
     }
 
     /// The number of the slab's stuck buffer. A slab has one exactly where it has the no-move mark.
@@ -258,11 +278,13 @@ impl<K: Kind> SlabTable<K> {
         ensures slabs { IfOk result (λ s. s.slabs ≡ replicate slabs (slab_in_source chunks)) }
         ensures chunks { IfOk result (λ s. s.chunks ≡ chunks) }
         ensures cells { IfOk result (λ s. length s.cells ≡ slabs * chunks) }
+        ensures skip { IfOk result (λ s. s.skip ≡ replicate (slabs * chunks) false) }
     {
         Ok(SlabTable {
             chunks,
             cells: free_cells(alloc, slabs * chunks)?,
             lines: Vec::from_elem(alloc, Line::in_source(), slabs as usize)?,
+            skip: Vec::from_elem(alloc, false, (slabs * chunks) as usize)?,
             kind: PhantomData,
         })
     }

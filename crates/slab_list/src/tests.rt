@@ -137,24 +137,20 @@ fn the_third_time_marks(rt: HostRuntime) -> Result<(), Fail> {
     Ok(())
 }
 
-// What a scan chooses of 24 buffers, without those that are skipped.
+// What a scan chooses of 24 buffers, without those that it leaves out.
 fn chosen(
-    list: &SlabList<Counters>,
+    list: &mut SlabList<Counters>,
     numer: u32,
     desperate: bool,
-    skipped: &[usize],
+    left_out: &[u32],
 ) -> Option<u32> {
-    let mut skip = [false; 24];
-    for number in skipped {
-        if *number < 24 {
-            skip[*number] = true;
+    for number in 0..24 {
+        if number / list.chunks() < list.slabs() {
+            list.leave_out(number, left_out.contains(&number));
         }
     }
-    if list.slabs() * list.chunks() == 24 {
-        list.last_reclaimable(numer, desperate, &skip)
-    } else {
-        None
-    }
+    let first = list.first_partial(&mut Steps::create());
+    list.last_reclaimable(first, numer, desperate)
 }
 
 // Slab 0 has six of eight out, and slabs 1 and 2 have two: less than three eighths, but not less than two.
@@ -163,14 +159,14 @@ fn three_mild_scans(rt: HostRuntime) -> Result<(), Fail> {
     let out = [0, 1, 2, 3, 4, 5, 8, 9, 16, 17];
     let mut list = listed(rt.alloc(), 3, 8, &out)?;
     assert_eq!(rt; list.first_free(), Some(6));
-    assert_eq!(rt; chosen(&list, 2, false, &[]), None);
-    assert_eq!(rt; chosen(&list, 3, false, &[]), Some(16));
-    assert_eq!(rt; chosen(&list, 3, false, &[16]), Some(17));
-    assert_eq!(rt; chosen(&list, 1, true, &[16, 17]), Some(8));
-    assert_eq!(rt; chosen(&list, 3, true, &[16, 17, 8, 9]), None);
+    assert_eq!(rt; chosen(&mut list, 2, false, &[]), None);
+    assert_eq!(rt; chosen(&mut list, 3, false, &[]), Some(16));
+    assert_eq!(rt; chosen(&mut list, 3, false, &[16]), Some(17));
+    assert_eq!(rt; chosen(&mut list, 1, true, &[16, 17]), Some(8));
+    assert_eq!(rt; chosen(&mut list, 3, true, &[16, 17, 8, 9]), None);
     fix(&mut list, 17);
-    assert_eq!(rt; chosen(&list, 3, false, &[]), Some(8));
-    assert_eq!(rt; chosen(&list, 3, true, &[]), Some(8));
+    assert_eq!(rt; chosen(&mut list, 3, false, &[]), Some(8));
+    assert_eq!(rt; chosen(&mut list, 3, true, &[]), Some(8));
     Ok(())
 }
 

@@ -35,7 +35,7 @@ impl<K: Kind> ObjectCache<K> {
     {
         let mild = !desperate && counts::is_fragmented(self.stock.list());
         self.scan = self.scan.next(desperate, mild);
-        self.moves.ask_anew();
+        self.moves.ask_anew(&mut self.stock);
     }
 
     /// Begins the move that the scan asks for next, off the last slab with a buffer that it may ask about. Slabs are looked at from the last
@@ -102,9 +102,10 @@ impl<K: Kind> ObjectCache<K> {
     }
 
     // The next move, if there is one to begin.
-    fn plan(&self) -> Option<Plan>
-        ensures some { IfSome result (λ plan. IsPlan self.now.state plan.number plan.from plan.to) }
-        ensures none { IsNone result → is_idle self.now.state ≡ true }
+    fn plan(&mut self) -> Option<Plan>
+        ensures some { IfSome result (λ plan. IsPlan self.old.state plan.number plan.from plan.to) }
+        ensures none { IsNone result → is_idle self.old.state ≡ true }
+        ensures same { self.new ≡ self.old }
     {
         law_order();
         let first = self.first_partial();
@@ -122,11 +123,12 @@ impl<K: Kind> ObjectCache<K> {
     }
 
     // The buffer that the scan asks about next.
-    fn choice(&self, first: Option<u32>) -> Option<u32>
-        requires { first ≡ first_partial self.now.state.slabs }
-        ensures some { IfSome result (λ b. (is_off self.now.state.mode ≡ false) × (chosen self.now.state ≡ Some b) ×
-            (b < length self.now.state.asked)) }
-        ensures none { IsNone result → is_idle self.now.state ≡ true }
+    fn choice(&mut self, first: Option<u32>) -> Option<u32>
+        requires { first ≡ first_partial self.old.state.slabs }
+        ensures some { IfSome result (λ b. (is_off self.old.state.mode ≡ false) × (chosen self.old.state ≡ Some b) ×
+            (b < length self.old.state.asked)) }
+        ensures none { IsNone result → is_idle self.old.state ≡ true }
+        ensures same { self.new ≡ self.old }
     {
         match self.scan.mode {
             Mode::Off => None,
@@ -135,14 +137,15 @@ impl<K: Kind> ObjectCache<K> {
         }
     }
 
-    fn last_to_ask(&self, first: Option<u32>, desperate: bool) -> Option<u32>
-        requires mode { self.now.state.mode ≡ mode_of desperate }
-        requires first { first ≡ first_partial self.now.state.slabs }
-        ensures choice { result ≡ chosen self.now.state }
-        ensures range { IfSome result (λ b. b < length self.now.state.asked) }
+    fn last_to_ask(&mut self, first: Option<u32>, desperate: bool) -> Option<u32>
+        requires mode { self.old.state.mode ≡ mode_of desperate }
+        requires first { first ≡ first_partial self.old.state.slabs }
+        ensures choice { result ≡ chosen self.old.state }
+        ensures range { IfSome result (λ b. b < length self.old.state.asked) }
+        ensures same { self.new ≡ self.old }
     {
-        let list = self.stock.list();
-        list.last_reclaimable_after(first, self.scan.numerator, desperate, self.moves.skip())
+        self.stock
+            .last_reclaimable(first, self.scan.numerator, desperate)
     }
 
     fn begin_move(&mut self, plan: Plan, object: K::Object) -> Job<K>
@@ -155,6 +158,8 @@ impl<K: Kind> ObjectCache<K> {
     {
         let buf = self.stock.take(Room::Listed(plan.to), object);
         let pending = self.moves.begin(plan.number, plan.from, plan.to);
+        self.stock.leave_out(plan.from, true);
+        self.stock.leave_out(plan.to, true);
         self.scan.begun = true;
         Begun::of(pending, buf)
     }
@@ -194,7 +199,10 @@ impl<K: Kind> ObjectCache<K> {
         ensures ended { self.new.state ≡ without_move self.old.state pending.no }
         ensures home { self.new.home ≡ self.old.home }
     {
+        let (from, to) = (pending.from(), pending.to());
         self.moves.end(pending);
+        self.stock.leave_out(from, self.moves.is_left_out(from));
+        self.stock.leave_out(to, self.moves.is_left_out(to));
         if !self.moves.is_any() {
             self.stock.give_back();
         }

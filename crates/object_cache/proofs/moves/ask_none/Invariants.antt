@@ -3,12 +3,13 @@ use Rattle.object_cache.specs.Moves.{is_left_out_of}
 use Rattle.object_cache.proofs.moves.ask_none.Given as goal
 
 abbrev pub invariant-loop-number : goal.invariant-loop-number
-invariant-loop-number l =
+invariant-loop-number g l =
     record {
       asked : length l.asked ≡ length l.initial.asked;
-      skip : length l.skip ≡ length l.initial.skip;
-      left_out : (b : ℕ) → get_or l.skip b false ≡ is_left_out_of l.asked l.pending b;
+      stock : l.stock ≡ record l.initial.stock { skip = l.stock.skip };
+      skip : length l.stock.skip ≡ length l.initial.stock.skip;
+      left_out : (b : ℕ) → get_or l.stock.skip b false ≡ is_left_out_of l.asked l.pending b;
     }
 
 abbrev pub decreases-loop-number : goal.decreases-loop-number
-decreases-loop-number l = count_by (λ (b : Bool). b) l.asked
+decreases-loop-number g l = count_by (λ (b : Bool). b) l.asked

@@ -24,6 +24,7 @@ loop-slab-preserved g c =
     record {
       chunks = ap (λ (s : ListState). s.chunks) e ∙ k.chunks;
       cells = ap (λ (s : ListState). s.cells) e ∙ k.cells;
+      skip = ap (λ (s : ListState). s.skip) e ∙ k.skip;
       went = subst (λ (s : ListState). WentBack c.args.list.now.slabs s.slabs) (sym e) (went_more c.args.list.now.slabs slabs i f.below k.went);
       stocked = c.give_back_one.ensures.stocked;
     }
@@ -43,5 +44,6 @@ returns-clause-list g c =
     let l = c.loop-slab.list in
     let none = (c.law_order.ensures.no_least (length l.slabs) (λ j. is_dead (slab_at l.slabs j))).0 (sym c.in_default.ensures) in
     let is = back_all old.slabs l.slabs c.loop-slab.invariant.went none in
-    ap (λ n. record { chunks = n; slabs = l.slabs; cells = l.cells }) c.loop-slab.invariant.chunks
-    ∙ ap₂ (λ (slabs : List SlabState) (cells : List TableId). record { chunks = old.chunks; slabs = slabs; cells = cells }) is c.loop-slab.invariant.cells
+    ap₂ (λ n skip. record { chunks = n; slabs = l.slabs; cells = l.cells; skip = skip }) c.loop-slab.invariant.chunks c.loop-slab.invariant.skip
+    ∙ ap₂ (λ (slabs : List SlabState) (cells : List TableId). record { chunks = old.chunks; slabs = slabs; cells = cells; skip = old.skip }) is
+    c.loop-slab.invariant.cells

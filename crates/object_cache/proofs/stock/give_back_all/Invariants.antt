@@ -9,6 +9,7 @@ invariant-loop-slab g l =
     record {
       chunks : l.list.chunks ≡ l.initial.list.chunks;
       cells : l.list.cells ≡ l.initial.list.cells;
+      skip : l.list.skip ≡ l.initial.list.skip;
       went : WentBack l.initial.list.slabs l.list.slabs;
       stocked : IsStocked l.list.slabs l.supply;
     }

@@ -1,4 +1,4 @@
-use Rattle.std.proofs.Common.{rules, ◌≡◌, ◌≤◌, length, sym, ap, ◌∙◌, subst}
+use Rattle.std.proofs.Common.{rules, ◌≡◌, ◌≤◌, false, length, get_or, sym, ap, ◌∙◌, subst}
 use Rattle.slab_list.specs.Slabs.{ListState}
 use Rattle.kmem_model.specs.CacheEnter.{with_answer}
 use Rattle.kmem_model.specs.SettleWhole.{IsWhole}
@@ -12,6 +12,8 @@ invariant_of-self g c =
     let f = c.self.inside in
     let answered : with_answer (cache_of f.stock f.moves f.scan).state c.args.number (said_of c.args.verdict) ≡ (cache_of c.answer.new.self f.moves f.scan).state = search rules in
     record {
+      skips = ap (λ (l : ListState). length l.skip) c.answer.ensures ∙ (c.self.invariant.skips ∙ sym (ap (λ (l : ListState). length l.cells) c.answer.ensures));
+      left_out = λ b. ap (λ (l : ListState). get_or l.skip b false) c.answer.ensures ∙ c.self.invariant.left_out b;
       size = c.self.invariant.size ∙ sym (ap (λ (l : ListState). length l.cells) c.answer.ensures);
       few = subst (λ n. n ≤ 65536) (sym (ap (λ (l : ListState). length l.cells) c.answer.ensures)) c.self.invariant.few;
       least = c.self.invariant.least;

@@ -14,13 +14,13 @@ pub overflow_add-self : goal.overflow_add-self
 overflow_add-self c =
     let f = c.self.inside in
     let low : c.args.number < length f.pending.items = omega (arith, c.requires.number, ap (λ m. length m.pending) c.self.view_is) in
-    omega (arith, fewer f.stubs.items f.pending.items f.asked f.skip.items f.count c.self.invariant c.args.number low (ap (λ m. get_or m.pending c.args.number None) c.self.view_is ∙ c.requires.idle), c.self.invariant.few)
+    omega (arith, fewer f.stubs.items f.pending.items f.asked f.count c.self.invariant c.args.number low (ap (λ m. get_or m.pending c.args.number None) c.self.view_is ∙ c.requires.idle), c.self.invariant.few)
 
 pub issue-requires : goal.issue-requires
 issue-requires c =
     let f = c.self.inside in
     let low : c.args.number < length f.pending.items = omega (arith, c.requires.number, ap (λ m. length m.pending) c.self.view_is) in
-    free_says f.stubs.items f.pending.items f.asked f.skip.items f.count c.self.invariant c.args.number low c.index_mut-stub.result.now c.index_mut-stub.ensures.value
+    free_says f.stubs.items f.pending.items f.asked f.count c.self.invariant c.args.number low c.index_mut-stub.result.now c.index_mut-stub.ensures.value
     (ap (λ m. get_or m.pending c.args.number None) c.self.view_is ∙ c.requires.idle)
 
 pub invariant_of-self : goal.invariant_of-self
@@ -30,8 +30,8 @@ invariant_of-self c =
     let asked : c.ask-2.new.self ≡ set (set f.asked c.args.from true) c.args.to true = c.ask-2.ensures ∙ ap (λ (a : List Bool). set a c.args.to true) c.ask.ensures in
     subst (λ (a : List Bool). AreTracked (set f.stubs.items c.args.number c.issue.new.self)
     (set f.pending.items c.args.number (Some (record { from = c.args.from; to = c.args.to })))
-    a (set (set f.skip.items c.args.from true) c.args.to true) (f.count + 1)) (sym asked)
-    (begun f.stubs.items f.pending.items f.asked f.skip.items f.count c.self.invariant c.args.number low c.issue.new.self c.args.from c.args.to
+    a (f.count + 1)) (sym asked)
+    (begun f.stubs.items f.pending.items f.asked f.count c.self.invariant c.args.number low c.issue.new.self c.args.from c.args.to
     (ap (λ m. get_or m.pending c.args.number None) c.self.view_is ∙ c.requires.idle)
     (omega (arith, c.requires.buffers.0, ap (λ m. length m.asked) c.self.view_is))
     (omega (arith, c.requires.buffers.1, ap (λ m. length m.asked) c.self.view_is))

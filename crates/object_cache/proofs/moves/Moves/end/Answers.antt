@@ -4,7 +4,7 @@ use Rattle.std.proofs.lemmas.Option.{slice_get_within}
 use Rattle.std.proofs.lemmas.List.{length-map}
 use Rattle.atomic_table.specs.Seated.{TableId}
 use Rattle.kmem_buf.specs.Stubs.{StubState}
-use Rattle.object_cache.specs.Moves.{MovesState, is_left_out_of}
+use Rattle.object_cache.specs.Moves.{MovesState}
 use Rattle.object_cache.proofs.Tracked.{pending_says, some_pending, ended}
 use Rattle.object_cache.proofs.moves.Moves.end.Goals as goal
 
@@ -15,53 +15,9 @@ overflow_sub-self c =
     let low : p.slot < length f.pending.items =
     omega (arith, slice_get_within c.args.self.now.stubs c.args.pending.slot c.args.pending.home c.requires, length-map f.stubs.items (λ (s : StubState). s.home), c.self.invariant.size, ap (λ m. length m.stubs) c.self.view_is, ap (λ q. q.slot) c.pending.view_is) in
     let says =
-    pending_says f.stubs.items f.pending.items f.asked f.skip.items f.count c.self.invariant p.slot low c.index_mut-stub.result.now p.no p.from p.to c.index_mut-stub.ensures.value
+    pending_says f.stubs.items f.pending.items f.asked f.count c.self.invariant p.slot low c.index_mut-stub.result.now p.no p.from p.to c.index_mut-stub.ensures.value
     (ap (λ s. s.issued) c.redeem.ensures.was) (ap (λ s. s.facts) c.redeem.ensures.was ∙ c.pending.invariant) in
-    some_pending f.stubs.items f.pending.items f.asked f.skip.items f.count c.self.invariant p.slot low (record { from = p.from; to = p.to }) says.0.1
-
-pub is_left_out-requires : goal.is_left_out-requires
-is_left_out-requires c =
-    let f = c.self.inside in
-    let p = c.pending.inside in
-    let low : p.slot < length f.pending.items =
-    omega (arith, slice_get_within c.args.self.now.stubs c.args.pending.slot c.args.pending.home c.requires, length-map f.stubs.items (λ (s : StubState). s.home), c.self.invariant.size, ap (λ m. length m.stubs) c.self.view_is, ap (λ q. q.slot) c.pending.view_is) in
-    let says =
-    pending_says f.stubs.items f.pending.items f.asked f.skip.items f.count c.self.invariant p.slot low c.index_mut-stub.result.now p.no p.from p.to c.index_mut-stub.ensures.value
-    (ap (λ s. s.issued) c.redeem.ensures.was) (ap (λ s. s.facts) c.redeem.ensures.was ∙ c.pending.invariant) in
-    omega (arith, says.1.0)
-
-pub index_mut-requires-2 : goal.index_mut-requires-2
-index_mut-requires-2 c =
-    let f = c.self.inside in
-    let p = c.pending.inside in
-    let low : p.slot < length f.pending.items =
-    omega (arith, slice_get_within c.args.self.now.stubs c.args.pending.slot c.args.pending.home c.requires, length-map f.stubs.items (λ (s : StubState). s.home), c.self.invariant.size, ap (λ m. length m.stubs) c.self.view_is, ap (λ q. q.slot) c.pending.view_is) in
-    let says =
-    pending_says f.stubs.items f.pending.items f.asked f.skip.items f.count c.self.invariant p.slot low c.index_mut-stub.result.now p.no p.from p.to c.index_mut-stub.ensures.value
-    (ap (λ s. s.issued) c.redeem.ensures.was) (ap (λ s. s.facts) c.redeem.ensures.was ∙ c.pending.invariant) in
-    omega (arith, says.1.0, f.skip.ok.0, c.self.invariant.as_many)
-
-pub is_left_out-requires-2 : goal.is_left_out-requires-2
-is_left_out-requires-2 c =
-    let f = c.self.inside in
-    let p = c.pending.inside in
-    let low : p.slot < length f.pending.items =
-    omega (arith, slice_get_within c.args.self.now.stubs c.args.pending.slot c.args.pending.home c.requires, length-map f.stubs.items (λ (s : StubState). s.home), c.self.invariant.size, ap (λ m. length m.stubs) c.self.view_is, ap (λ q. q.slot) c.pending.view_is) in
-    let says =
-    pending_says f.stubs.items f.pending.items f.asked f.skip.items f.count c.self.invariant p.slot low c.index_mut-stub.result.now p.no p.from p.to c.index_mut-stub.ensures.value
-    (ap (λ s. s.issued) c.redeem.ensures.was) (ap (λ s. s.facts) c.redeem.ensures.was ∙ c.pending.invariant) in
-    omega (arith, says.1.1)
-
-pub index_mut-requires-3 : goal.index_mut-requires-3
-index_mut-requires-3 c =
-    let f = c.self.inside in
-    let p = c.pending.inside in
-    let low : p.slot < length f.pending.items =
-    omega (arith, slice_get_within c.args.self.now.stubs c.args.pending.slot c.args.pending.home c.requires, length-map f.stubs.items (λ (s : StubState). s.home), c.self.invariant.size, ap (λ m. length m.stubs) c.self.view_is, ap (λ q. q.slot) c.pending.view_is) in
-    let says =
-    pending_says f.stubs.items f.pending.items f.asked f.skip.items f.count c.self.invariant p.slot low c.index_mut-stub.result.now p.no p.from p.to c.index_mut-stub.ensures.value
-    (ap (λ s. s.issued) c.redeem.ensures.was) (ap (λ s. s.facts) c.redeem.ensures.was ∙ c.pending.invariant) in
-    omega (arith, says.1.1, f.skip.ok.0, c.self.invariant.as_many)
+    some_pending f.stubs.items f.pending.items f.asked f.count c.self.invariant p.slot low (record { from = p.from; to = p.to }) says.0.1
 
 pub invariant_of-self : goal.invariant_of-self
 invariant_of-self c =
@@ -70,12 +26,21 @@ invariant_of-self c =
     let low : p.slot < length f.pending.items =
     omega (arith, slice_get_within c.args.self.now.stubs c.args.pending.slot c.args.pending.home c.requires, length-map f.stubs.items (λ (s : StubState). s.home), c.self.invariant.size, ap (λ m. length m.stubs) c.self.view_is, ap (λ q. q.slot) c.pending.view_is) in
     let says =
-    pending_says f.stubs.items f.pending.items f.asked f.skip.items f.count c.self.invariant p.slot low c.index_mut-stub.result.now p.no p.from p.to c.index_mut-stub.ensures.value
+    pending_says f.stubs.items f.pending.items f.asked f.count c.self.invariant p.slot low c.index_mut-stub.result.now p.no p.from p.to c.index_mut-stub.ensures.value
     (ap (λ s. s.issued) c.redeem.ensures.was) (ap (λ s. s.facts) c.redeem.ensures.was ∙ c.pending.invariant) in
-    ended f.stubs.items f.pending.items f.asked f.skip.items f.count c.self.invariant p.slot low c.redeem.new.self p.from p.to says.0.1 c.redeem.ensures.ended
-    c.is_left_out.result c.is_left_out-2.result
-    (c.is_left_out.ensures ∙ ap (λ q. is_left_out_of f.asked q p.from) c.deref.ensures.value)
-    (c.is_left_out-2.ensures ∙ ap (λ q. is_left_out_of f.asked q p.to) c.deref-2.ensures.value)
+    ended f.stubs.items f.pending.items f.asked f.count c.self.invariant p.slot low c.redeem.new.self (record { from = p.from; to = p.to }) says.0.1
+    c.redeem.ensures.ended
+
+pub returns-clause-buffers : goal.returns-clause-buffers
+returns-clause-buffers c =
+    let f = c.self.inside in
+    let p = c.pending.inside in
+    let low : p.slot < length f.pending.items =
+    omega (arith, slice_get_within c.args.self.now.stubs c.args.pending.slot c.args.pending.home c.requires, length-map f.stubs.items (λ (s : StubState). s.home), c.self.invariant.size, ap (λ m. length m.stubs) c.self.view_is, ap (λ q. q.slot) c.pending.view_is) in
+    let says =
+    pending_says f.stubs.items f.pending.items f.asked f.count c.self.invariant p.slot low c.index_mut-stub.result.now p.no p.from p.to c.index_mut-stub.ensures.value
+    (ap (λ s. s.issued) c.redeem.ensures.was) (ap (λ s. s.facts) c.redeem.ensures.was ∙ c.pending.invariant) in
+    rw (← c.self.view_is, ← c.pending.view_is) says.1
 
 pub returns-clause-was : goal.returns-clause-was
 returns-clause-was c =
@@ -84,7 +49,7 @@ returns-clause-was c =
     let low : p.slot < length f.pending.items =
     omega (arith, slice_get_within c.args.self.now.stubs c.args.pending.slot c.args.pending.home c.requires, length-map f.stubs.items (λ (s : StubState). s.home), c.self.invariant.size, ap (λ m. length m.stubs) c.self.view_is, ap (λ q. q.slot) c.pending.view_is) in
     let says =
-    pending_says f.stubs.items f.pending.items f.asked f.skip.items f.count c.self.invariant p.slot low c.index_mut-stub.result.now p.no p.from p.to c.index_mut-stub.ensures.value
+    pending_says f.stubs.items f.pending.items f.asked f.count c.self.invariant p.slot low c.index_mut-stub.result.now p.no p.from p.to c.index_mut-stub.ensures.value
     (ap (λ s. s.issued) c.redeem.ensures.was) (ap (λ s. s.facts) c.redeem.ensures.was ∙ c.pending.invariant) in
     rw (← c.self.view_is, ← c.pending.view_is) (record { no = says.0.0; move = says.0.1 })
 

@@ -29,9 +29,9 @@ returns g c =
     let line = c.line-line.result in
     let e = c.line-line.ensures in
     let t : Tells line (slab_at s.slabs i) = record { standing = e.standing; used = e.used; later = e.later; stuck = e.stuck } in
-    let bin = c.bin.ensures.bin ∙ ap (λ n. bin_at n line.standing line.used (is_some line.stuck)) c.chunks.ensures.chunks in
-    leaves s.chunks s.slabs c.args.self.now i c.requires.slab line t c.bin.result bin c.bin.ensures.range c.place.new.places c.note.new.noted
-    _ _ _ _ c.requires.index c.place.ensures c.note.ensures
+    let bin = c.bin-bin.ensures.bin ∙ ap (λ n. bin_at n line.standing line.used (is_some line.stuck)) c.chunks.ensures.chunks in
+    leaves s.chunks s.slabs c.args.self.now i c.requires.slab line t c.bin-bin.result bin c.bin-bin.ensures.range c.place.new.places c.place-2.new.places c.note.new.noted
+    s.skip _ _ _ _ c.requires.index c.place.ensures c.place-2.ensures c.note.ensures
     (ap (λ n. c.args.self.now.listed - n) c.listed.ensures)
     (ap (λ n. c.args.self.now.unused - n) c.unused.ensures)
     (ap (λ n. c.args.self.now.dead - n) c.dead.ensures)

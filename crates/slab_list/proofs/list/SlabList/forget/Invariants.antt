@@ -9,6 +9,7 @@ invariant-loop-slab g l =
     record {
       chunks : l.self.chunks ≡ l.initial.self.chunks;
       cells : l.self.cells ≡ l.initial.self.cells;
+      skip : l.self.skip ≡ l.initial.self.skip;
       size : length l.self.slabs ≡ length l.initial.self.slabs;
       same : (i : ℕ) → unmarked (slab_at l.self.slabs i) ≡ unmarked (slab_at l.initial.self.slabs i);
     }

@@ -13,6 +13,6 @@ enter-requires-clause-index g c =
     let b = c.args.buf.number in
     let x = c.leave.new.self in
     let same : c.number.result / c.chunks.result ≡ b / s.chunks = ap₂ (λ m n. m / n) c.number.ensures c.chunks.ensures.chunks in
-    subst (λ i. IsIndexOf new.chunks (set new.slabs i no_slab) x) (sym same)
+    subst (λ i. IsIndexOf new.chunks (set new.slabs i no_slab) new.skip x) (sym same)
     (reenter s new (b / s.chunks) (slab_freed Listed (slab_at s.slabs (b / s.chunks)) (b % s.chunks)) x c.give-object.ensures.list
-    (subst (λ i. IsIndexOf s.chunks (set s.slabs i no_slab) x) same c.leave.ensures))
+    (subst (λ i. IsIndexOf s.chunks (set s.slabs i no_slab) s.skip x) same c.leave.ensures))

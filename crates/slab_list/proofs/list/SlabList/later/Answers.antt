@@ -12,6 +12,6 @@ enter-requires-clause-index g c =
     let b = c.args.number in
     let x = c.leave.new.self in
     let same : c.chunks.result ≡ s.chunks = c.chunks.ensures.chunks in
-    subst (λ n. IsIndexOf new.chunks (set new.slabs (b / n) no_slab) x) (sym same)
+    subst (λ n. IsIndexOf new.chunks (set new.slabs (b / n) no_slab) new.skip x) (sym same)
     (reenter s new (b / s.chunks) (slab_later (slab_at s.slabs (b / s.chunks)) (b % s.chunks)) x c.later.ensures
-    (subst (λ n. IsIndexOf s.chunks (set s.slabs (b / n) no_slab) x) same c.leave.ensures))
+    (subst (λ n. IsIndexOf s.chunks (set s.slabs (b / n) no_slab) s.skip x) same c.leave.ensures))

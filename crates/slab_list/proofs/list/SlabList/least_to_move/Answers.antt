@@ -10,7 +10,7 @@ pub returns-then-not-may_ask-clause-least : goal.returns-then-not-may_ask-clause
 returns-then-not-may_ask-clause-least g c =
     let s = c.args.self.now in
     let i = c.args.slab in
-    let skip : ℕ → Bool = λ b. slice_index_or c.args.skip.now b false in
+    let skip : ℕ → Bool = λ b. slice_index_or s.skip b false in
     let slab = slab_at s.slabs i in
     sym (ap (option_map (λ k. i * s.chunks + k))
     ((c.law_order.ensures.no_least (length slab.out) (can_move s.chunks c.args.rule.numer (mode_of c.args.rule.desperate) skip s.slabs i)).1
@@ -20,7 +20,7 @@ pub returns-then-is_left-clause-least : goal.returns-then-is_left-clause-least
 returns-then-is_left-clause-least g c =
     let s = c.args.self.now in
     let i = c.args.slab in
-    let skip : ℕ → Bool = λ b. slice_index_or c.args.skip.now b false in
+    let skip : ℕ → Bool = λ b. slice_index_or s.skip b false in
     let slab = slab_at s.slabs i in
     let k = c.loop-place.place in
     ap Some c.number.ensures.number
@@ -36,7 +36,7 @@ pub loop-place-preserved : goal.loop-place-preserved
 loop-place-preserved g c =
     let s = c.args.self.now in
     let i = c.args.slab in
-    let skip : ℕ → Bool = λ b. slice_index_or c.args.skip.now b false in
+    let skip : ℕ → Bool = λ b. slice_index_or s.skip b false in
     let slab = slab_at s.slabs i in
     let can : ℕ → Bool = can_move s.chunks c.args.rule.numer (mode_of c.args.rule.desperate) skip s.slabs i in
     let here : can c.loop-place.place ≡ false =
@@ -47,7 +47,7 @@ pub returns-clause-least : goal.returns-clause-least
 returns-clause-least g c =
     let s = c.args.self.now in
     let i = c.args.slab in
-    let skip : ℕ → Bool = λ b. slice_index_or c.args.skip.now b false in
+    let skip : ℕ → Bool = λ b. slice_index_or s.skip b false in
     let slab = slab_at s.slabs i in
     sym (ap (option_map (λ k. i * s.chunks + k))
     ((c.law_order.ensures.no_least (length slab.out) (can_move s.chunks c.args.rule.numer (mode_of c.args.rule.desperate) skip s.slabs i)).1
@@ -57,5 +57,5 @@ pub returns-then-is_left-clause-out : goal.returns-then-is_left-clause-out
 returns-then-is_left-clause-out g c =
     let s = c.args.self.now in
     let place = c.number.ensures.place in
-    let out = (and_parts (is_out_on (slab_at s.slabs c.args.slab) c.loop-place.place) (not (slice_index_or c.args.skip.now (c.args.slab * s.chunks + c.loop-place.place) false)) (sym c.is_left.ensures ∙ c.if-is_left.true)).0 in
+    let out = (and_parts (is_out_on (slab_at s.slabs c.args.slab) c.loop-place.place) (not (slice_index_or s.skip (c.args.slab * s.chunks + c.loop-place.place) false)) (sym c.is_left.ensures ∙ c.if-is_left.true)).0 in
     (c.number.ensures.range, ap₂ (λ i k. is_out_on (slab_at s.slabs i) k) place.0 place.1 ∙ out)

@@ -6,4 +6,4 @@ use Rattle.slab_list.proofs.table.SlabTable.chunks.Goals as goal
 pub returns-clause-whole : goal.returns-clause-whole
 returns-clause-whole g c =
     let f = c.self.inside in
-    subst IsListWhole c.self.view_is (whole f.chunks f.cells.items f.lines.items c.self.invariant)
+    subst IsListWhole c.self.view_is (whole f.chunks f.cells.items f.lines.items c.self.invariant f.skip.items)

@@ -11,4 +11,4 @@ returns-clause-slabs g c =
 pub returns-clause-whole : goal.returns-clause-whole
 returns-clause-whole g c =
     let f = c.self.inside in
-    subst IsListWhole c.self.view_is (whole f.chunks f.cells.items f.lines.items c.self.invariant)
+    subst IsListWhole c.self.view_is (whole f.chunks f.cells.items f.lines.items c.self.invariant f.skip.items)
