@@ -32,12 +32,19 @@ impl<K: Kind> Model for CacheSeat<K> {
 }
 
 impl<K: Kind> CacheSeat<K> {
-    ghost use Rattle.std.specs.Prelude.{◌≡◌};
+    ghost use Rattle.std.specs.Prelude.{◌≡◌, length};
 
     /// How many entries it may still make.
     pub fn left(&self) -> u32
         ensures { result ≡ self.now.pass.left }
     {
         self.pass.left()
+    }
+
+    /// How many buffers lie in its magazines.
+    pub fn rounds(&self) -> u32
+        ensures { result ≡ length self.now.rounds }
+    {
+        self.cpu.len()
     }
 }

@@ -44,6 +44,13 @@ impl<X: Drop> Pair<X> {
         })
     }
 
+    /// How many rounds both have.
+    pub fn len(&self) -> u32
+        ensures { result ≡ length (layer_rounds self.now) }
+    {
+        self.loaded.len() + self.previous.len()
+    }
+
     /// The buffer that came in last. None where both are empty.
     pub fn take(&mut self) -> Option<Buffer<X>>
         ensures result { result ≡ (take_from self.old.loaded self.old.previous).0 }

@@ -32,7 +32,7 @@ use Rattle.kmem_cache.specs.Calls.{HasAllocated}
 use Rattle.record_table.specs.Shares.{ShareState, counted_on}
 use Rattle.record_table.specs.Tables.{TableHome}
 use Rattle.record_table.specs.Turns.{entry_of, put_back, is_new_end, is_refused_offer, brought_by_put}
-use Rattle.record_table.specs.Sessions.{HasAdded, HasLooked, HasPutSo, HasPut, FoundNoRoom}
+use Rattle.record_table.specs.Sessions.{HasAdded, HasLooked, HasPutSo, HasPut, FoundAbsent, FoundNoRoom}
 use Rattle.record_table.specs.Runs.{asks_slabs, IsFullOf, HasBrought}
 use Rattle.record_table.proofs.Sessions.{front_on}
 use Rattle.record_table.proofs.Runs.{acted_front, front_same}
@@ -53,9 +53,9 @@ added_on a b c number command reply looked it =
     }
 
 pub brought_on : (cells : List TableId) (a b c : PassState RecordEntry TableHome) (number : ℕ) (command : Command) (reply : Reply) (back : Option (BufState Object))
-    (share share' : ShareState) (seat seat' : CacheSeatState) → HasLooked a b → HasBrought cells b c number command reply back share share' seat seat' →
-    HasBrought cells a c number command reply back share share' seat seat'
-brought_on cells a b c number command reply back share share' seat seat' looked it =
+    (share share' : ShareState) (seat seat' : CacheSeatState) (why : Type 0) → HasLooked a b → HasBrought cells b c number command reply back share share' seat seat' why →
+    HasBrought cells a c number command reply back share share' seat seat' why
+brought_on cells a b c number command reply back share share' seat seat' why looked it =
     record {
       added = added_on a b c number command reply looked it.added;
       blank = it.blank;
@@ -108,7 +108,7 @@ module _ (cells : List TableId) (old new : PassState RecordEntry TableHome) (num
   -- with a buffer of the cache
   pub fresh_ok : (constructed : Object → Type 0) (never : Bool) (cache : CacheSite) (seat seat' : CacheSeatState) (buf : BufState Object) (result : Result (BufState Object) CacheRefused) (entry : Option CacheEntry) →
       result ≡ Ok buf → offer ≡ Fresh buf → IsBlankBuffer cells buf → HasActed seat.pass seat'.pass entry → HasAllocated constructed never cache seat seat' result entry → seat'.returned ≡ seat.returned →
-      HasBrought cells old new number (Put name value) reply back share share' seat seat'
+      HasBrought cells old new number (Put name value) reply back share share' seat seat' (seat.rounds ≡ [])
   fresh_ok constructed never cache seat seat' buf result entry got offers ready acted told_so returned =
       let allocated : HasAllocated constructed never cache seat seat' (Ok buf) entry = subst (λ r. HasAllocated constructed never cache seat seat' r entry) got told_so in
       let made = ap (λ o. brought_by_put o end) offers in
@@ -124,8 +124,8 @@ module _ (cells : List TableId) (old new : PassState RecordEntry TableHome) (num
         left = acted.left;
         asks =
             ⊎_elim
-            (λ kept. subst (λ (x : Option CacheEntry). IfSome x (λ e. asks_slabs e ≡ true)) (sym kept.0) tt)
-            (λ taken. subst (λ (x : Option CacheEntry). IfSome x (λ e. asks_slabs e ≡ true)) (sym taken.0) refl)
+            (λ kept. subst (λ (x : Option CacheEntry). IfSome x (λ e. (asks_slabs e ≡ true) × (seat.rounds ≡ []))) (sym kept.0) tt)
+            (λ taken. subst (λ (x : Option CacheEntry). IfSome x (λ e. (asks_slabs e ≡ true) × (seat.rounds ≡ []))) (sym taken.0) (refl, taken.1.0))
             allocated.2;
         site = acted.site;
         number = acted.number;
@@ -149,7 +149,7 @@ module _ (cells : List TableId) (old new : PassState RecordEntry TableHome) (num
   -- where it had none
   pub fresh_full : (constructed : Object → Type 0) (never : Bool) (cache : CacheSite) (seat seat' : CacheSeatState) (note : FullNote) (result : Result (BufState Object) CacheRefused) (entry : Option CacheEntry) →
       result ≡ Err (none.Full note) → offer ≡ Refused note → HasActed seat.pass seat'.pass entry → HasAllocated constructed never cache seat seat' result entry → seat'.returned ≡ seat.returned →
-      HasBrought cells old new number (Put name value) reply back share share' seat seat'
+      HasBrought cells old new number (Put name value) reply back share share' seat seat' (seat.rounds ≡ [])
   fresh_full constructed never cache seat seat' note result entry got offers acted told_so returned =
       let allocated : HasAllocated constructed never cache seat seat' (Err (none.Full note)) entry = subst (λ r. HasAllocated constructed never cache seat seat' r entry) got told_so in
       let made = ap (λ o. brought_by_put o end) offers ∙ zero_made (is_new_end end) in
@@ -163,7 +163,7 @@ module _ (cells : List TableId) (old new : PassState RecordEntry TableHome) (num
         front = acted_front seat.pass seat'.pass entry acted;
         mine = acted.mine;
         left = acted.left;
-        asks = subst (λ (x : Option CacheEntry). IfSome x (λ e. asks_slabs e ≡ true)) (sym allocated.0) refl;
+        asks = subst (λ (x : Option CacheEntry). IfSome x (λ e. (asks_slabs e ≡ true) × (seat.rounds ≡ []))) (sym allocated.0) (refl, allocated.2.0);
         site = acted.site;
         number = acted.number;
         full = λ full. (
@@ -194,8 +194,8 @@ module _ (cells : List TableId) (old new : PassState RecordEntry TableHome) (num
       none_either false = refl
 
   -- with no offer
-  pub present_done : (seat : CacheSeatState) → offer ≡ Nothing → HasBrought cells old new number (Put name value) reply back share share' seat seat
-  present_done seat offers =
+  pub present_done : (seat : CacheSeatState) (why : Type 0) → offer ≡ Nothing → HasBrought cells old new number (Put name value) reply back share share' seat seat why
+  present_done seat why offers =
       let made = ap (λ o. brought_by_put o end) offers ∙ zero_made (is_new_end end) in
       let none_back : back ≡ None = back_is ∙ (ap (λ o. cond (is_new_end end) None (offered o)) offers ∙ none_either (is_new_end end)) in
       let some = ap {B = ℕ} (λ (x : Option (BufState Object)). cond (is_some x) 1 0) none_back in
@@ -225,3 +225,47 @@ module _ (cells : List TableId) (old new : PassState RecordEntry TableHome) (num
       none_either : (b : Bool) → cond b None None ≡ no_buffer
       none_either true = refl
       none_either false = refl
+
+-- where the slabs are asked for one reason, another one holds too
+pub brought_why : (cells : List TableId) (a b : PassState RecordEntry TableHome) (number : ℕ) (command : Command) (reply : Reply) (back : Option (BufState Object))
+    (share share' : ShareState) (seat seat' : CacheSeatState) (why other : Type 0) → (why → other) → HasBrought cells a b number command reply back share share' seat seat' why →
+    HasBrought cells a b number command reply back share share' seat seat' other
+brought_why cells a b number command reply back share share' seat seat' why other to it =
+    record {
+      added = it.added;
+      blank = it.blank;
+      asked = it.asked;
+      front = it.front;
+      mine = it.mine;
+      left = it.left;
+      asks = asked_so it.asked it.asks;
+      site = it.site;
+      number = it.number;
+      full = it.full;
+      brought = it.brought;
+      fetched = it.fetched;
+      lent = it.lent;
+      returned = it.returned;
+      balance = it.balance;
+      share_at = it.share_at;
+    }
+  where
+    asked_so : (asked : Option CacheEntry) → IfSome asked (λ e. (asks_slabs e ≡ true) × why) → IfSome asked (λ e. (asks_slabs e ≡ true) × other)
+    asked_so None asks = tt
+    asked_so (Some e) asks = (asks.0, to asks.1)
+
+-- what a look has found a pass has found once it has added an entry
+pub found_on : (a b c : PassState RecordEntry TableHome) (number : ℕ) (command : Command) (reply : Reply) → FoundAbsent a b command →
+    HasAdded b c number command reply → FoundAbsent a c command
+found_on a b c number command reply found it =
+    record {
+      before = found.before;
+      object = found.object;
+      home_is = found.home_is;
+      stood = found.stood;
+      later = found.later;
+      seen =
+          front_on found.before b.seen c.seen found.seen
+          (front_on b.seen it.before c.seen it.front ((b.number, entry_of number command reply) ∷ [], sym it.seen));
+      absent = found.absent;
+    }

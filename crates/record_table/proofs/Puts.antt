@@ -144,11 +144,11 @@ module _ (t : TableView) (heap : HeapView) (pen : MarkPenState) (shares : Shares
       })
 
   -- a buffer is wanted
-  pub wanted : offer ≡ Nothing → end ≡ Wanting → heap ≡ t.heap → pen ≡ t.pen → shares ≡ t.shares → IsPutTurn t new who number name value offer end
-  wanted nothing is stays same kept =
+  pub wanted : offer ≡ Nothing → address_of t.heap.heap name.0 ≡ None → end ≡ Wanting → heap ≡ t.heap → pen ≡ t.pen → shares ≡ t.shares → IsPutTurn t new who number name value offer end
+  wanted nothing missing is stays same kept =
       ends_as Wanting is
       (record {
-        tells = record { made = refl; back = sym (ap offered nothing); wanting = λ e. nothing; full = λ back e. absurd (cc) };
+        tells = record { made = refl; back = sym (ap offered nothing); wanting = λ e. (nothing, missing); full = λ back e. absurd (cc) };
         told =
             ap₂ (λ (x : HeapView) (p : MarkPenState). record t { heap = x; pen = p; shares = shares }) stays same
             ∙ ap (λ (s : SharesState). record t { shares = s }) kept;
@@ -192,7 +192,7 @@ module _ (t : TableView) (heap : HeapView) (pen : MarkPenState) (shares : Shares
       by_leftover (Some b) left asked none it = reused b none it known kept
 
       by_offer : (o : Offer) → offer ≡ o → address_of t.heap.heap name.0 ≡ None → IsPutNew t.heap name.0 value o end heap → IsPutTurn t new who number name value offer end
-      by_offer Nothing is none it = wanted is it.0 it.1 same kept
+      by_offer Nothing is none it = wanted is none it.0 it.1 same kept
       by_offer (Fresh buf) is none it = absurd (elim apart [
         | inl nothing ↦ absurd (cc)
         | inr other ↦ not_made it.reply other

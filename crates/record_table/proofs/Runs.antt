@@ -26,7 +26,7 @@ use Rattle.kmem_model.specs.Heap.{Object}
 use Rattle.record_table.specs.Turns.{entry_of, is_plain, fetched_by_del}
 use Rattle.record_table.specs.Holds.{tag_in, IsHeldBy}
 use Rattle.kmem_text.specs.declared.command.NameId.{NameId}
-use Rattle.record_table.specs.Sessions.{SessionState, IsSession, HasHolds, HasAdded, WasMet, kept_at}
+use Rattle.record_table.specs.Sessions.{SessionState, IsSession, HasHolds, HasAdded, FoundAbsent, WasMet, kept_at}
 use Rattle.record_table.specs.Runs.{is_put, is_del, asks_slabs, frees_slab, HasUsed, GrowsByOne, HasBalanced, HasCarriedOut, HasCarriedOutAlone, IsFullOf}
 use Rattle.record_table.proofs.Holding.{same_quiet, same_undone, held_or_not, let_go}
 
@@ -112,8 +112,8 @@ acted_front old new entry it =
     front_on old.seen it.history new.seen it.front (subst (IsFront it.history) (sym it.seen) (told_front it.history old.number entry))
 
 -- no use of it
-pub used_none : (seat : PassState CacheEntry CacheHome) (command : Command) → HasUsed seat seat command
-used_none seat command =
+pub used_none : (seat : PassState CacheEntry CacheHome) (command : Command) (absent : Type 0) → HasUsed seat seat command absent
+used_none seat command absent =
     record {
       asked = None;
       freed = None;
@@ -153,7 +153,7 @@ alone_done command reply old new b it did = λ cache seat of.
       holding = did.holding;
       met = did.met;
       full = λ full. absurd (no_full old.pass new.pass (old.made + 1) command reply did.added did.other full);
-      used = used_none seat.pass command;
+      used = used_none seat.pass command (FoundAbsent old.pass new.pass command);
       balanced = subst (λ (s : ShareState). HasBalanced old.share s seat seat) (sym did.same) (balanced_none old.share seat);
       share = subst (IsShareAt old.pass.site.home.shares) (sym did.same) it.share;
       of = of;
@@ -262,12 +262,12 @@ none_there holds tag none = ap (set holds tag) (sym none) ∙ set-get_or holds t
 -- Commands that use the cache
 
 -- what was asked of the cache, and then what was freed
-pub used_on : (seat mid then : PassState CacheEntry CacheHome) (command : Command) (asked freed : Option CacheEntry) →
+pub used_on : (seat mid then : PassState CacheEntry CacheHome) (command : Command) (absent : Type 0) (asked freed : Option CacheEntry) →
     IsFront seat.seen mid.seen → mid.mine ≡ seat.mine ++ listed asked → mid.left + length (listed asked) ≡ seat.left → mid.site ≡ seat.site → mid.number ≡ seat.number →
     IsFront mid.seen then.seen → then.mine ≡ mid.mine ++ listed freed → then.left + length (listed freed) ≡ mid.left → then.site ≡ mid.site → then.number ≡ mid.number →
-    IfSome asked (λ e. (is_put command ≡ true) × (asks_slabs e ≡ true)) → IfSome freed (λ e. ((is_put command || is_del command) ≡ true) × (frees_slab e ≡ true)) →
-    HasUsed seat then command
-used_on seat mid then command asked freed front mine left site number front' mine' left' site' number' asks frees =
+    IfSome asked (λ e. (is_put command ≡ true) × (asks_slabs e ≡ true) × absent) → IfSome freed (λ e. ((is_put command || is_del command) ≡ true) × (frees_slab e ≡ true)) →
+    HasUsed seat then command absent
+used_on seat mid then command absent asked freed front mine left site number front' mine' left' site' number' asks frees =
     record {
       asked = asked;
       freed = freed;
@@ -315,7 +315,8 @@ known_next old new share b d number command reply was there it =
 
 pub known_done : (cache : CacheSite) (old new : SessionState) (share : ShareState) (b : Bool) (number : ℕ) (command : Command) (reply : Reply) (seat seat' : CacheSeatState) →
     IsSession old b → IsKnown old new share number command reply → tag_in command ≡ None → (reply ≡ said.Full → IsFullOf old.pass.site.home new.pass command seat.pass seat'.pass) →
-    HasUsed seat.pass seat'.pass command → HasBalanced share new.share seat seat' → IsCacheSeat cache seat' → HasCarriedOut cache command reply old new seat seat'
+    HasUsed seat.pass seat'.pass command (FoundAbsent old.pass new.pass command) → HasBalanced share new.share seat seat' →
+    IsCacheSeat cache seat' → HasCarriedOut cache command reply old new seat seat'
 known_done cache old new share b number command reply seat seat' was it on full used balanced of =
     record {
       added = it.added;
@@ -359,7 +360,7 @@ balanced_put share share' seat seat' back few brought fetched lent returned bala
     }
 
 -- what a put asks
-pub asked_is : (command : Command) (entry : Option CacheEntry) → is_put command ≡ true → IfSome entry (λ e. asks_slabs e ≡ true) →
-    IfSome entry (λ e. (is_put command ≡ true) × (asks_slabs e ≡ true))
-asked_is command None put asks = tt
-asked_is command (Some e) put asks = (put, asks)
+pub asked_is : (command : Command) (why : Type 0) (entry : Option CacheEntry) → is_put command ≡ true → IfSome entry (λ e. (asks_slabs e ≡ true) × why) →
+    IfSome entry (λ e. (is_put command ≡ true) × (asks_slabs e ≡ true) × why)
+asked_is command why None put asks = tt
+asked_is command why (Some e) put asks = (put, asks.0, asks.1)

@@ -1,5 +1,5 @@
 -- What a turn adds to what its pass has seen.
-use Rattle.std.proofs.Common.{◌≡◌, ℕ, true, List, [], ◌∷◌, ◌++◌, Option, None, Some, ⊎_elim, arith, sym, ap, ◌∙◌, refl, subst}
+use Rattle.std.proofs.Common.{◌≡◌, ℕ, true, List, [], ◌∷◌, ◌++◌, Option, None, Some, is_none, get_or, ⊎_elim, arith, sym, ap, ◌∙◌, refl, subst}
 use Rattle.std.proofs.lemmas.Bool.{both_ways}
 use Rattle.std.proofs.lemmas.List.{append-nil, append_assoc}
 use Rattle.kmem_text.specs.declared.command.Command.{Command}
@@ -8,8 +8,10 @@ use Rattle.kmem_text.specs.declared.command.NameId.{NameId}
 use Rattle.kmem_text.specs.declared.command.Reply.{Reply}
 use Rattle.kmem_text.specs.declared.command.Reply.TheVariants.{Full}
 use Rattle.kmem_buf.specs.Buffers.{BufState}
-use Rattle.kmem_model.specs.Records.{no_records, tag_place}
-use Rattle.kmem_model.specs.Heap.{Object, least_left_in}
+use Rattle.kmem_model.specs.Records.{no_records, id_of, tag_place}
+use Rattle.kmem_model.specs.Heap.{Object, address_in, address_of, least_left_in}
+use Rattle.kmem_model.proofs.CacheLists.{get_or-map_default}
+use Rattle.std.specs.Option.{option_map}
 use Rattle.kmem_model.specs.RecordStep.{step}
 use Rattle.kmem_model.specs.History.{worker_of, is_refusal, map_after, IsRight, IsLegalHistory}
 use Rattle.kmem_model.proofs.Legal.{legal-append, step_no_refusal}
@@ -25,7 +27,7 @@ use Rattle.record_table.specs.Tables.{TableHome, TableView, IsStandingFor, home_
 use Rattle.record_table.specs.Turns.{entry_of, put_entry, is_refused_offer, brought_by_put, IsPutTold}
 use Rattle.record_table.specs.Holds.{IsHoldThere}
 use Rattle.record_table.proofs.Idle.{held_in}
-use Rattle.record_table.specs.Sessions.{HasAdded, HasLooked, HasPutSo, HasPut, WasMadeOn, FoundNoRoom, WasMet}
+use Rattle.record_table.specs.Sessions.{HasAdded, HasLooked, HasPutSo, HasPut, WasMadeOn, FoundAbsent, FoundNoRoom, WasMet}
 
 abbrev TableTurn : {Out : Type 0} → (TableView → TableView → List (ℕ × RecordEntry) → Out → Option RecordEntry → Type 0) →
     PassState RecordEntry TableHome → PassState RecordEntry TableHome → Out → List (ℕ × RecordEntry) → Option RecordEntry → Type 0
@@ -100,6 +102,11 @@ abbrev PutTells : ℕ → NameId → List ℕ → Offer → ShareState → Table
 PutTells number name value offer share before after history out entry =
     IsPutTold before number name value offer out.0 entry × (out.1 ≡ counted_on (brought_by_put offer out.0) 0 share)
 
+-- a name without an address has no id
+none_there : (f : ℕ → ℕ) (id : Option ℕ) → option_map f id ≡ None → is_none id ≡ true
+none_there f None none = refl
+none_there f (Some id) none = absurd (cc)
+
 -- a put's turn
 pub put_added : (old new : PassState RecordEntry TableHome) (number : ℕ) (name : NameId) (value : List ℕ) (offer : Offer) (share : ShareState) (out : PutEnd × ShareState)
     (h : List (ℕ × RecordEntry)) (entry : Option RecordEntry) →
@@ -108,7 +115,7 @@ put_added old new number name value offer share out h entry turn =
     record {
       so = by_end out.0 refl;
       back = turn.answered.0.back;
-      wanting = turn.answered.0.wanting;
+      wanting = λ is. (let both = turn.answered.0.wanting is in (both.0, by_wanting is both.1));
       full = λ back is. by_full back is (turn.answered.0.full back is);
     }
   where
@@ -122,6 +129,21 @@ put_added old new number name value offer share out h entry turn =
     by_end (Replied reply back) is =
         added (PutTells number name value offer share) old new out h number (Put name value) reply (with_entry (put_entry number name value (Replied reply back)) (made_as (Replied reply back) is))
     by_end Wanting is = looked_on (PutTells number name value offer share) old new out h (with_entry None (made_as Wanting is))
+
+    by_wanting : out.0 ≡ Wanting → address_of turn.before.heap.heap name.0 ≡ None → FoundAbsent old new (Put name value)
+    by_wanting is none =
+        record {
+          before = h;
+          object = turn.before;
+          home_is = turn.stood.1;
+          stood = turn.stood.0;
+          later = turn.met.front;
+          seen = subst (IsFront h) (sym (turn.seen ∙ ap (told h old.number) (made_as Wanting is))) ([], append-nil h);
+          absent =
+              none_there (address_in turn.stood.0.addresses) (id_of (map_after (no_records turn.before.names turn.before.workers) h) name.0)
+              (sym (get_or-map_default (option_map (address_in turn.stood.0.addresses)) (map_after (no_records turn.before.names turn.before.workers) h).names name.0 None)
+              ∙ (sym (ap (λ xs. get_or xs name.0 None) turn.stood.0.stands.paired.names) ∙ none));
+        }
 
     by_full : (back : Option (BufState Object)) → out.0 ≡ Replied Full back → (is_refused_offer offer ≡ true) × (least_left_in turn.before.heap.heap ≡ None) →
         (is_refused_offer offer ≡ true) × FoundNoRoom old.site.home new (Put name value)

@@ -20,7 +20,7 @@ use Rattle.kmem_cache.specs.Seats.{CacheSite, CacheSeatState, IsCacheSeat, buffe
 use Rattle.record_table.specs.Shares.{ShareState, IsShareAt}
 use Rattle.record_table.specs.Tables.{TableHome}
 use Rattle.record_table.specs.Holds.{tag_in}
-use Rattle.record_table.specs.Sessions.{SessionState, HasAdded, HasHolds, FoundNoRoom, WasMet}
+use Rattle.record_table.specs.Sessions.{SessionState, HasAdded, HasHolds, FoundAbsent, FoundNoRoom, WasMet}
 
 abbrev pub is_put : Command → Bool
 is_put (Put name value) = true
@@ -40,15 +40,15 @@ abbrev pub frees_slab : CacheEntry → Bool
 frees_slab (Free number) = true
 frees_slab _ = false
 
--- what a command may do to the cache's history: at most one entry asks for a buffer, for a put alone, and at most one behind it frees one, for a
--- put or a del alone; there is no other
-pub record HasUsed (old new : PassState CacheEntry CacheHome) (command : Command) : Type 0 where
+-- what a command may do to the cache's history: at most one entry asks for a buffer, for a put alone and only where this is so, and at most one
+-- behind it frees one, for a put or a del alone; there is no other
+pub record HasUsed (old new : PassState CacheEntry CacheHome) (command : Command) (absent : Type 0) : Type 0 where
   pub asked : Option CacheEntry
   pub freed : Option CacheEntry
   pub front : IsFront old.seen new.seen
   pub mine : new.mine ≡ (old.mine ++ listed asked) ++ listed freed
   pub left : new.left + length (listed asked) + length (listed freed) ≡ old.left
-  pub asks : IfSome asked (λ e. (is_put command ≡ true) × (asks_slabs e ≡ true))
+  pub asks : IfSome asked (λ e. (is_put command ≡ true) × (asks_slabs e ≡ true) × absent)
   pub frees : IfSome freed (λ e. ((is_put command || is_del command) ≡ true) × (frees_slab e ≡ true))
   pub site : new.site ≡ old.site
   pub number : new.number ≡ old.number
@@ -88,17 +88,17 @@ pub record CanCarryOut (table : Site TableHome) (cache : CacheSite) (session : S
   pub seat_left : 2 ≤ seat.pass.left
   pub counts : (session.share.brought < 2 ^ 62) × (session.share.fetched < 2 ^ 62)
 
--- what a put has done but for a buffer that comes back: its entry; what it asked the cache for; and the counts, by which a buffer that was lent
--- was brought into the heap or comes back
+-- what a put has done but for a buffer that comes back: its entry; what it asked the slabs for, only where this is so; and the counts, by which
+-- a buffer that was lent was brought into the heap or comes back
 pub record HasBrought (cells : List TableId) (old new : PassState RecordEntry TableHome) (no : ℕ) (command : Command) (reply : Reply) (back : Option (BufState Object))
-    (share share' : ShareState) (seat seat' : CacheSeatState) : Type 0 where
+    (share share' : ShareState) (seat seat' : CacheSeatState) (why : Type 0) : Type 0 where
   pub added : HasAdded old new no command reply
   pub blank : IfSome back (IsBlankBuffer cells)
   pub asked : Option CacheEntry
   pub front : IsFront seat.pass.seen seat'.pass.seen
   pub mine : seat'.pass.mine ≡ seat.pass.mine ++ listed asked
   pub left : seat'.pass.left + length (listed asked) ≡ seat.pass.left
-  pub asks : IfSome asked (λ e. asks_slabs e ≡ true)
+  pub asks : IfSome asked (λ e. (asks_slabs e ≡ true) × why)
   pub site : seat'.pass.site ≡ seat.pass.site
   pub number : seat'.pass.number ≡ seat.pass.number
   pub full : reply ≡ said.Full → IsFullOf old.site.home new command seat.pass seat'.pass × (back ≡ None)
@@ -119,8 +119,8 @@ pub record HasCarriedOut (cache : CacheSite) (command : Command) (reply : Reply)
   pub met : (tag : ℕ) → tag_in command ≡ Some tag → IfSome (slice_index_or old.holds tag None) (WasMet old.pass.site.home new.pass)
   -- `full` has its cause
   pub full : reply ≡ said.Full → IsFullOf old.pass.site.home new.pass command seat.pass seat'.pass
-  -- what it did with the cache
-  pub used : HasUsed seat.pass seat'.pass command
+  -- what it did with the cache: it asks the slabs only where a turn of this call found the put's name absent
+  pub used : HasUsed seat.pass seat'.pass command (FoundAbsent old.pass new.pass command)
   pub balanced : HasBalanced old.share new.share seat seat'
   pub share : IsShareAt old.pass.site.home.shares new.share
   pub of : IsCacheSeat cache seat'

@@ -105,6 +105,16 @@ pub record WasMadeOn (home : TableHome) (new : PassState RecordEntry TableHome) 
 abbrev pub map_on : {home : TableHome} {new : PassState RecordEntry TableHome} → WasMadeOn home new → RecordMap
 map_on made = map_after (no_records made.object.names made.object.workers) made.before
 
+-- a turn of this call found the put's name absent: at a history that the pass has seen since
+pub record FoundAbsent (old new : PassState RecordEntry TableHome) (command : Command) : Type 0 where
+  pub before : List (ℕ × RecordEntry)
+  pub object : TableView
+  pub home_is : home_of object ≡ old.site.home
+  pub stood : IsStandingFor object before
+  pub later : IsFront old.seen before
+  pub seen : IsFront before new.seen
+  pub absent : is_put_of_absent (map_after (no_records object.names object.workers) before) command ≡ true
+
 -- the put found its name absent, and the heap had no leftover
 pub record FoundNoRoom (home : TableHome) (new : PassState RecordEntry TableHome) (command : Command) : Type 0 where
   pub on : WasMadeOn home new
@@ -125,10 +135,10 @@ HasPutSo old new at name value (Replied reply back) = HasAdded old new at (Put n
 HasPutSo old new at name value Wanting = HasLooked old new
 
 -- a put's turn with this offer ends so: the buffer that was offered comes back where no record was made; it wants one only where it was
--- offered nothing; it is `full` only where the cache had none, the name is absent, and there is no leftover
+-- offered nothing and found the name absent; it is `full` only where the cache had none, the name is absent, and there is no leftover
 pub record HasPut (old new : PassState RecordEntry TableHome) (no : ℕ) (name : NameId) (value : List ℕ) (offer : Offer) (end : PutEnd) : Type 0 where
   pub so : HasPutSo old new no name value end
   pub back : IsBackOf offer end
-  pub wanting : end ≡ Wanting → offer ≡ Nothing
+  pub wanting : end ≡ Wanting → (offer ≡ Nothing) × FoundAbsent old new (Put name value)
   pub full : (back : Option (BufState Object)) → end ≡ Replied Full back →
       (is_refused_offer offer ≡ true) × FoundNoRoom old.site.home new (Put name value)

@@ -8,7 +8,7 @@ use Rattle.kmem_text.specs.declared.command.Reply.TheVariants.{New, Full}
 use Rattle.kmem_text.specs.Grammar.{IsWithinNames}
 use Rattle.kmem_model.specs.declared.record_entry.RecordEntry.{RecordEntry}
 use Rattle.kmem_buf.specs.Buffers.{BufState}
-use Rattle.kmem_model.specs.Heap.{Object, least_left_in}
+use Rattle.kmem_model.specs.Heap.{Object, address_of, least_left_in}
 use Rattle.marks.specs.Words.{MarksState}
 use Rattle.record_heap.specs.Puts.{IsReadyOffer, offered}
 use Rattle.record_heap.specs.declared.heap.put.Offer.{Offer}
@@ -83,11 +83,11 @@ abbrev pub brought_by_put : Offer → PutEnd → ℕ
 brought_by_put offer end = if (is_new_end end && is_some (offered offer)) then 1 else 0
 
 -- what a put's turn tells: its entry, if it makes one; a buffer that was offered comes back where no record was made; it wants a buffer only where
--- it was offered nothing; and it is `full` only where the cache had none and there was no leftover
+-- it was offered nothing and the name is absent; and it is `full` only where the cache had none and there was no leftover
 pub record IsPutTold (old : TableView) (number : ℕ) (name : NameId) (value : List ℕ) (offer : Offer) (end : PutEnd) (entry : Option RecordEntry) : Type 0 where
   pub made : entry ≡ put_entry number name value end
   pub back : IsBackOf offer end
-  pub wanting : end ≡ Wanting → offer ≡ Nothing
+  pub wanting : end ≡ Wanting → (offer ≡ Nothing) × (address_of old.heap.heap name.0 ≡ None)
   pub full : (back : Option (BufState Object)) → end ≡ Replied Full back →
       (is_refused_offer offer ≡ true) × (least_left_in old.heap.heap ≡ None)
 

@@ -110,13 +110,6 @@ impl Records {
         Ok((records, marks, seats, dealt))
     }
 
-    /// Whether the name is there.
-    pub fn is_there(&self, name: NameId) -> bool
-        requires { name.0 < self.now.names }
-    {
-        self.heap.address(name).is_some()
-    }
-
     /// Carries out a command that needs no buffer and no hold, and gives none.
     pub fn plain(&mut self, who: u32, command: &Command) -> Reply
         requires plain { is_plain command.now ≡ true }

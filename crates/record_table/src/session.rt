@@ -55,8 +55,8 @@ impl Session {
         self.made
     }
 
-    /// Carries out one command, in one turn that makes its entry; a put looks before that turn, and may make a turn more. It may wait for
-    /// other turns, of the table and of the cache.
+    /// Carries out one command, in one turn that makes its entry. A put whose seat has no buffer at hand makes a turn before it where the name is
+    /// absent, and then asks the cache. It may wait for other turns, of the table and of the cache.
     pub fn run<R: Wait>(
         &mut self,
         rt: &R,

@@ -299,26 +299,6 @@ impl Turn<Records> for IdleTurn {
     }
 }
 
-/// Whether a name is there. It makes no entry.
-#[derive(Clone, Copy)]
-pub struct LookTurn {
-    pub name: NameId,
-}
-
-impl Turn<Records> for LookTurn {
-    ghost use Rattle.std.specs.Prelude.{◌≡◌, ◌<◌, None};
-
-    type Out = bool;
-
-    ghost can = { λ turn who home history. turn.name.0 < home.names };
-
-    ghost tells = { λ turn who home before after history out entry. entry ≡ None };
-
-    fn run(self, _who: u32, object: &mut Records) -> (bool, Option<RecordEntry>) {
-        (object.is_there(self.name), None)
-    }
-}
-
 fn entry_of(number: u32, command: &Command, reply: &Reply) -> RecordEntry
     ensures { result ≡ entry_of number command.now reply.now }
 {

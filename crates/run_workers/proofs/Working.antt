@@ -16,6 +16,7 @@ use Rattle.hist_lock.specs.History.{listed}
 use Rattle.hist_lock.specs.Passes.{Site}
 use Rattle.kmem_cache.specs.Seats.{CacheSite}
 use Rattle.record_table.specs.Tables.{TableHome}
+use Rattle.record_table.specs.Sessions.{FoundAbsent}
 use Rattle.record_table.specs.Runs.{is_put, is_del, asks_slabs, frees_slab, HasCarriedOut}
 use Rattle.run_workers.specs.declared.worker.Worker.{Worker}
 use Rattle.run_workers.specs.Workers.{asked_of, is_refused, is_full_entry, is_of_worker, IsReady, HasDone}
@@ -78,19 +79,19 @@ either_right : (a b : Bool) → b ≡ true → (a || b) ≡ true
 either_right true b e = refl
 either_right false b e = e
 
-of_asked : (o : Option CacheEntry) (put : Bool) → IfSome o (λ e. (put ≡ true) × (asks_slabs e ≡ true)) → All (λ e. is_of_worker e ≡ true) (listed o)
-of_asked None put h = All-nil (λ e. is_of_worker e ≡ true)
-of_asked (Some e) put h = All-cons (λ e. is_of_worker e ≡ true) e [] (either_left (asks_slabs e) (frees_slab e) h.1) (All-nil (λ e. is_of_worker e ≡ true))
+of_asked : (o : Option CacheEntry) (put : Bool) (absent : Type 0) → IfSome o (λ e. (put ≡ true) × (asks_slabs e ≡ true) × absent) → All (λ e. is_of_worker e ≡ true) (listed o)
+of_asked None put absent h = All-nil (λ e. is_of_worker e ≡ true)
+of_asked (Some e) put absent h = All-cons (λ e. is_of_worker e ≡ true) e [] (either_left (asks_slabs e) (frees_slab e) h.1) (All-nil (λ e. is_of_worker e ≡ true))
 
 of_freed : (o : Option CacheEntry) (may : Bool) → IfSome o (λ e. (may ≡ true) × (frees_slab e ≡ true)) → All (λ e. is_of_worker e ≡ true) (listed o)
 of_freed None may h = All-nil (λ e. is_of_worker e ≡ true)
 of_freed (Some e) may h = All-cons (λ e. is_of_worker e ≡ true) e [] (either_right (asks_slabs e) (frees_slab e) h.1) (All-nil (λ e. is_of_worker e ≡ true))
 
 -- a buffer is asked for only by a put
-asks_of : (o : Option CacheEntry) (put : Bool) → IfSome o (λ e. (put ≡ true) × (asks_slabs e ≡ true)) → count_by asks_slabs (listed o) ≤ cond put 1 0
-asks_of None put h = omega arith
-asks_of (Some e) true h = omega (arith, count_one asks_slabs e, at_most_one (asks_slabs e))
-asks_of (Some e) false h = absurd (no h.0)
+asks_of : (o : Option CacheEntry) (put : Bool) (absent : Type 0) → IfSome o (λ e. (put ≡ true) × (asks_slabs e ≡ true) × absent) → count_by asks_slabs (listed o) ≤ cond put 1 0
+asks_of None put absent h = omega arith
+asks_of (Some e) true absent h = omega (arith, count_one asks_slabs e, at_most_one (asks_slabs e))
+asks_of (Some e) false absent h = absurd (no h.0)
   where
     no : false ≡ true → ⊥
     no e = cc
@@ -162,9 +163,9 @@ working_on cache old w w' i command reply small is at does commands number =
         number = does.added.number ∙ at.done.number;
         kinds = subst (All (λ e. is_of_worker e ≡ true)) (sym used.mine)
             (All-append (λ e. is_of_worker e ≡ true) (mine ++ listed used.asked) (listed used.freed)
-            (All-append (λ e. is_of_worker e ≡ true) mine (listed used.asked) at.done.kinds (of_asked used.asked (is_put command) used.asks))
+            (All-append (λ e. is_of_worker e ≡ true) mine (listed used.asked) at.done.kinds (of_asked used.asked (is_put command) (FoundAbsent w.session.pass w'.session.pass command) used.asks))
             (of_freed used.freed (is_put command || is_del command) used.frees));
-        asks = omega (arith, asks, puts, at.done.asks, asks_of used.asked (is_put command) used.asks, no_asks used.freed (is_put command || is_del command) used.frees);
+        asks = omega (arith, asks, puts, at.done.asks, asks_of used.asked (is_put command) (FoundAbsent w.session.pass w'.session.pass command) used.asks, no_asks used.freed (is_put command || is_del command) used.frees);
         refusals = omega (arith, refused, grown, at.done.refusals);
         seat_of = does.of;
         seat_number = used.number ∙ at.done.seat_number;

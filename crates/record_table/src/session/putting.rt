@@ -1,13 +1,13 @@
 //! A put over the cache.
-ghost use Rattle.std.specs.Prelude.{◌≡◌, ◌<◌, ◌≤◌};
+ghost use Rattle.std.specs.Prelude.{◌≡◌, ◌<◌, ◌≤◌, []};
 ghost use Rattle.kmem_text.specs.declared.command.Command.TheVariants as command;
 ghost use Rattle.kmem_cache.specs.Seats.{buffers_at, IsCacheSeat};
-ghost use Rattle.record_table.specs.Sessions.{CanAdd};
+ghost use Rattle.record_table.specs.Sessions.{CanAdd, FoundAbsent};
 ghost use Rattle.record_table.specs.Turns.{IsShareAsk};
 ghost use Rattle.record_table.specs.Runs.{CanCarryOut, HasBrought, HasCarriedOut};
 
 use super::Session;
-use super::steps::{is_there, run_put};
+use super::steps::run_put;
 use crate::records::Records;
 use crate::shares::Share;
 use crate::table::RecordTable;
@@ -39,7 +39,7 @@ fn put_fresh<R: Wait>(
     requires seat_left { 1 ≤ seat.old.pass.left }
     ensures of { IsCacheSeat cache.now seat.new }
     ensures brought { HasBrought table.now.home.cache.cells pass.old pass.new number (command.Put name value) result.0 result.1
-        share result.2 seat.old seat.new }
+        share result.2 seat.old seat.new (seat.old.rounds ≡ []) }
 {
     let offer = match cache.alloc(rt, seat) {
         Ok(buf) => Offer::Fresh(buf),
@@ -53,7 +53,8 @@ fn put_fresh<R: Wait>(
     }
 }
 
-// Carries a put out. A name that is there needs no buffer, unless it goes before the put's turn.
+// Carries a put out: in one turn where its magazines have a buffer to offer, which comes back where the name is there. Else it is offered
+// nothing, and the cache is asked only once a turn has found the name absent.
 fn put_over<R: Wait>(
     rt: &R,
     table: &RecordTable,
@@ -73,9 +74,9 @@ fn put_over<R: Wait>(
     requires seat_left { 1 ≤ seat.old.pass.left }
     ensures of { IsCacheSeat cache.now seat.new }
     ensures brought { HasBrought table.now.home.cache.cells pass.old pass.new number (command.Put name value) result.0 result.1
-        share result.2 seat.old seat.new }
+        share result.2 seat.old seat.new (FoundAbsent pass.old pass.new (command.Put name value)) }
 {
-    if !is_there(rt, table, pass, name) {
+    if seat.rounds() > 0 {
         return put_fresh(rt, table, cache, seat, pass, number, name, value, share);
     }
     let (end, share) = run_put(rt, table, pass, number, name, value, Offer::Nothing, share);

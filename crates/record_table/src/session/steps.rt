@@ -8,13 +8,13 @@ ghost use Rattle.record_heap.specs.Puts.{IsReadyOffer};
 ghost use Rattle.record_table.specs.Shares.{counted_on};
 ghost use Rattle.record_table.specs.Turns.{is_plain, IsShareAsk, brought_by_put, fetched_by_del};
 ghost use Rattle.record_table.specs.Holds.{IsHeldBy, tag_in};
-ghost use Rattle.record_table.specs.Sessions.{CanAdd, HasAdded, HasLooked, HasPut, WasMet};
+ghost use Rattle.record_table.specs.Sessions.{CanAdd, HasAdded, HasPut, WasMet};
 
 use crate::records::Records;
 use crate::shares::Share;
 use crate::table::RecordTable;
 use crate::turns::{
-    DelTurn, DropTurn, HoldTurn, IdleTurn, LookTurn, PlainTurn, PutTurn, ReadTurn, WriteTurn,
+    DelTurn, DropTurn, HoldTurn, IdleTurn, PlainTurn, PutTurn, ReadTurn, WriteTurn,
 };
 use hist_lock::Pass;
 use kmem_buf::Buf;
@@ -204,18 +204,4 @@ pub fn run_put<R: Wait>(
             share,
         },
     )
-}
-
-// Whether a name is there.
-pub fn is_there<R: Wait>(
-    rt: &R,
-    table: &RecordTable,
-    pass: &mut Pass<Records>,
-    name: NameId,
-) -> bool
-    requires of { pass.old.site ≡ table.now }
-    requires name { name.0 < table.now.home.names }
-    ensures looked { HasLooked pass.old pass.new }
-{
-    table.lock.look(rt, pass, LookTurn { name })
 }

@@ -3,7 +3,7 @@ use Rattle.kmem_text.specs.declared.command.Command.TheVariants.{Del}
 use Rattle.kmem_text.specs.declared.command.Reply.{Reply}
 use Rattle.kmem_cache.specs.Seats.{CacheSeatState, IsCacheSeat}
 use Rattle.record_table.specs.Shares.{ShareState}
-use Rattle.record_table.specs.Sessions.{SessionState, session_of, no_share}
+use Rattle.record_table.specs.Sessions.{SessionState, session_of, FoundAbsent, no_share}
 use Rattle.record_table.specs.Turns.{fetched_by_del}
 use Rattle.record_table.specs.Runs.{HasUsed, HasCarriedOut}
 use Rattle.record_table.proofs.Runs.{IsKnown, known_next, known_done, no_full, used_none, used_on, freed_is, front_same, acted_front, balanced_del}
@@ -28,7 +28,7 @@ pub invariant_of-self : goal.invariant_of-self
 invariant_of-self g c = known_next (session_of c.self.inside.pass c.self.inside.made c.self.inside.holds.items c.self.inside.share) (session_of c.run_del-reply.new.pass (c.self.inside.made + 1) c.self.inside.holds.items (Some c.run_del-reply.result.2)) c.in-Some.share _ true (c.self.inside.made + 1) (Del c.args.name) c.run_del-reply.result.0 c.self.invariant refl (known g c)
 
 -- what a free did, or nothing, and the counts
-done : (g : Over) (c : goal.Joined-out g) (seat : CacheSeatState) → IsCacheSeat c.args.cache.now seat → HasUsed c.args.seat.now.pass seat.pass (Del c.args.name) →
+done : (g : Over) (c : goal.Joined-out g) (seat : CacheSeatState) → IsCacheSeat c.args.cache.now seat → HasUsed c.args.seat.now.pass seat.pass (Del c.args.name) (FoundAbsent c.self.inside.pass c.run_del-reply.new.pass (Del c.args.name)) →
     seat.lent ≡ c.args.seat.now.lent → seat.returned ≡ c.args.seat.now.returned + fetched_by_del c.run_del-reply.result.1 →
     HasCarriedOut c.args.cache.now (Del c.args.name) c.run_del-reply.result.0 (session_of c.self.inside.pass c.self.inside.made c.self.inside.holds.items c.self.inside.share) (session_of c.run_del-reply.new.pass (c.self.inside.made + 1) c.self.inside.holds.items (Some c.run_del-reply.result.2)) c.args.seat.now seat
 done g c seat of used lent returned =
@@ -55,7 +55,7 @@ returns g c = record {
             let acted = w.free.ensures.acted in
             to_join g c w.free.new.seat c.run_del-reply.result.0 w.seat-is w.result-is
             (done g c w.free.new.seat w.free.ensures.of
-            (used_on c.args.seat.now.pass c.args.seat.now.pass w.free.new.seat.pass (Del c.args.name) None acted.0
+            (used_on c.args.seat.now.pass c.args.seat.now.pass w.free.new.seat.pass (Del c.args.name) (FoundAbsent c.self.inside.pass c.run_del-reply.new.pass (Del c.args.name)) None acted.0
             (front_same c.args.seat.now.pass.seen) (sym (append-nil c.args.seat.now.pass.mine)) (add-zero c.args.seat.now.pass.left) refl refl
             (acted_front c.args.seat.now.pass w.free.new.seat.pass acted.0 acted.1) acted.1.mine acted.1.left acted.1.site acted.1.number tt
             (freed_is c.args.cache.now c.args.seat.now w.free.new.seat w.in-Some-out.buf.number acted.0 true refl acted.2))
@@ -63,7 +63,7 @@ returns g c = record {
         | in-None w ↦
             (let none : fetched_by_del c.run_del-reply.result.1 ≡ 0 = ap fetched_by_del w.in-None.is in
             to_join g c c.args.seat.now c.run_del-reply.result.0 w.seat-is w.result-is
-            (done g c c.args.seat.now c.requires.can.seat_of (used_none c.args.seat.now.pass (Del c.args.name)) refl
+            (done g c c.args.seat.now c.requires.can.seat_of (used_none c.args.seat.now.pass (Del c.args.name) (FoundAbsent c.self.inside.pass c.run_del-reply.new.pass (Del c.args.name))) refl
             (sym (ap (λ n. c.args.seat.now.returned + n) none ∙ add-zero c.args.seat.now.returned))))
       ]);
 }
