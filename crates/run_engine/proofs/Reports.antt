@@ -1,5 +1,5 @@
 -- What is reported at the end of a run.
-use Rattle.std.proofs.Common.{◌≡◌, ℕ, true, List, length, is_some, refl, sym, ap, ap₂, ◌∙◌}
+use Rattle.std.proofs.Common.{◌≡◌, ℕ, true, List, length, is_some, sym, ap, ap₂, ◌∙◌, subst}
 use Rattle.kmem_text.specs.Grammar.{Plain}
 use Rattle.kmem_model.specs.CacheState.{out_count}
 use Rattle.kmem_model.specs.CacheCounts.{entries_in}
@@ -7,7 +7,7 @@ use Rattle.kmem_model.specs.CacheScans.{is_begin}
 use Rattle.kmem_model.specs.declared.record_entry.RecordEntry.{RecordEntry}
 use Rattle.kmem_model.specs.Records.{RecordMap, live_count, held_at, no_records}
 use Rattle.kmem_model.specs.History.{map_after, IsLegalHistory, has_held, has_fixed}
-use Rattle.kmem_model.specs.OneRun.{is_fixed}
+use Rattle.kmem_model.specs.OneRun.{is_fixed, without_leftovers}
 use Rattle.kmem_model.specs.Heap.{StandsFor, object_at, has_record}
 use Rattle.kmem_model.specs.Says.{stage_in, AreInBuffers}
 use Rattle.kmem_model.specs.Settle.{EndedMove}
@@ -20,7 +20,9 @@ use Rattle.object_cache.specs.declared.tally.Tally.{Tally}
 use Rattle.record_heap.specs.View.{HeapView}
 use Rattle.consolidator.specs.Tallies.{tally_of, ends_of}
 use Rattle.run_end.specs.Ends.{IsWoundUp, HasFreed, AreAllFree, AreEndsDue, IsOnFewest}
-use Rattle.run_end.proofs.Settling.{together}
+use Rattle.run_end.proofs.Settling.{together, stand_buffers}
+use Rattle.run_end.proofs.Left.{without_map}
+use Rattle.kmem_model.specs.One.{OneState, buffers_of}
 use Rattle.run_engine.specs.declared.plan.RunPlan.{RunPlan}
 use Rattle.run_engine.specs.declared.closing.Closed.{Closed}
 use Rattle.run_engine.specs.Ran.{IsReportOn, last_map}
@@ -83,11 +85,13 @@ report_so law taken plan script closed slabs heap settled live c w =
         between = w.wound_up.between.state;
         flush = c.flush;
         frees = freed.frees;
-        objects = w.wound_up.heap_between.heap.objects;
-        course = record { stage = stage_in slabs.state heap.heap.objects; moves = w.wound_up.settles.moves };
+        heap = w.wound_up.heap_between.heap;
+        addresses = s_freed.addresses;
+        stands = subst (λ (n : RecordMap). StandsFor n s_freed.addresses w.wound_up.heap_between.heap) map_kept freed.stands.stands.stands;
+        buffers = stand_buffers s_freed w.wound_up.between w.wound_up.heap_between freed.stands;
+        moves = w.wound_up.settles.moves;
         settle = w.wound_up.settles.settle;
         made = w.wound_up.settles.made;
-        ends = refl;
       };
       kept = record {
         heap = heap.heap;
@@ -117,6 +121,15 @@ report_so law taken plan script closed slabs heap settled live c w =
     freed : HasFreed (record { map = last_map plan script closed.ran.records.entries; cache = closed.slabs.state; addresses = c.addresses }) closed.slabs closed.heap w.wound_up.between w.wound_up.heap_between
     freed = w.wound_up.freed (record { map = last_map plan script closed.ran.records.entries; cache = closed.slabs.state; addresses = c.addresses })
         (together (last_map plan script closed.ran.records.entries) c.addresses closed.slabs closed.heap w.whole c.calm c.stands w.buffers)
+
+    s_closed : OneState
+    s_closed = record { map = last_map plan script closed.ran.records.entries; cache = closed.slabs.state; addresses = c.addresses }
+
+    s_freed : OneState
+    s_freed = without_leftovers (buffers_of closed.slabs.state) s_closed
+
+    map_kept : s_freed.map ≡ last_map plan script closed.ran.records.entries
+    map_kept = without_map (buffers_of closed.slabs.state) s_closed
 
     ends : ends_of settled ≡ ends_in w.wound_up.settles.entries
     ends = ap ends_of w.wound_up.settles.counts ∙ (counts_all law w.wound_up.settles.moves ∙ sym w.wound_up.settles.made.ends)

@@ -19,7 +19,7 @@ use Rattle.kmem_model.specs.CacheScans.{is_scan, is_begin, scan_entries, has_rou
 use Rattle.kmem_model.specs.CacheCounts.{entries_in, entries_by, total, moves_begun}
 use Rattle.kmem_model.specs.Heap.{Object, HeapState, StandsFor, has_record, object_at}
 use Rattle.kmem_model.specs.Says.{stage_in, AreInBuffers}
-use Rattle.kmem_model.specs.Settle.{Course}
+use Rattle.kmem_model.specs.Settle.{EndedMove}
 use Rattle.kmem_model.specs.SettleMeasure.{settled}
 use Rattle.kmem_model.specs.SettleEntries.{AreEntriesOf}
 use Rattle.kmem_model.specs.SettleWhole.{IsSettled}
@@ -83,19 +83,22 @@ last_map plan script records = map_after (no_records (length script.names) plan.
 
 -- What follows the join
 
--- From this state on the rounds of the magazines are freed, then the leftovers, and then comes one settle with these entries
-pub record HasWoundUp (s t : CacheState) (settling : List CacheEntry) : Type 0 where
+-- From this state on the rounds of the magazines are freed, then the leftovers, and then comes one settle with these entries. What it asks is
+-- answered about the objects of a heap that stands for the map and lies in the buffers that are out; these are its objects at its end
+pub record HasWoundUp (m : RecordMap) (s t : CacheState) (objects : List (Option Object)) (settling : List CacheEntry) : Type 0 where
   pub rounds : List ℕ
   pub leftovers : List ℕ
   pub flushed : CacheState
   pub between : CacheState
   pub flush : Follows s (frees_of rounds) flushed
   pub frees : Follows flushed (frees_of leftovers) between
-  pub objects : List (Option Object)
-  pub course : Course
-  pub settle : settled (stage_in between objects) ≡ Some course
-  pub made : AreEntriesOf (stage_in between objects) course settling
-  pub ends : course.stage.cache ≡ t
+  pub heap : HeapState
+  pub addresses : List ℕ
+  pub stands : StandsFor m addresses heap
+  pub buffers : AreInBuffers between heap.objects
+  pub moves : List EndedMove
+  pub settle : settled (stage_in between heap.objects) ≡ Some (record { stage = stage_in t objects; moves = moves })
+  pub made : AreEntriesOf (stage_in between heap.objects) (record { stage = stage_in t objects; moves = moves }) settling
 
 -- Nothing is lost: the buffers that are out are exactly those of objects that stand for the map, and each has a record that lives. The cache is
 -- settled; and where no record has a tag or is fixed, the listed slabs are as few as can hold the records
@@ -125,8 +128,8 @@ pub record IsReportOn (plan : RunPlan) (lines : List Line) (m : RecordMap) (hist
   pub reached : Reaches (sizes_of plan.slabs plan.chunks 64) history end
   pub last : CacheState
   pub settling : List CacheEntry
-  pub wound_up : HasWoundUp end last settling
   pub kept : IsNothingLost m last
+  pub wound_up : HasWoundUp m end last kept.heap.objects settling
   pub is : report ≡
       report_on last (live_count m) plan.scans (counted_in (entries_in history) is_begin) (ends_in (entries_in history)) (ends_in settling)
   pub moves_due : AreAnswersDue lines report.moves
